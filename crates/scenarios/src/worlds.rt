@@ -8,7 +8,7 @@ use scim_message::Request;
 use scim_resource::Content;
 use std::alloc::Global;
 use std::process::Abort;
-use world_sim::{World, read_schedule, run};
+use world_sim::{Act, World, read_schedule, run, run_among};
 
 /// Bob is looked for, created and confirmed.
 const CREATION: &str =
@@ -60,6 +60,29 @@ fn others_write_beside_the_connector(rt: HostRuntime) {
     assert_that(&rt, world.message(5).is_none());
     let theirs = "user zoe wanted=0 confirmed=0 held=4 version=2 active=false";
     shows(&rt, alloc, &mut world, &zoe(&rt, alloc), theirs);
+    let ours = "user bob wanted=1 confirmed=1 held=1 version=1 active=true";
+    shows(&rt, alloc, &mut world, &bob(&rt, alloc), ours)
+}
+
+/// Others create zoe, bob is created, and others try to create zoe again.
+#[test]
+fn others_act_between_the_events(rt: HostRuntime) {
+    let alloc = rt.alloc();
+    let mut acts = Vec::new(alloc);
+    let content = zoe(&rt, alloc);
+    acts.push(Act::Writes(content)).expect(&rt, "memory");
+    for event in read_schedule(alloc, CREATION).expect(&rt, "a schedule").into_iter() {
+        acts.push(Act::Ours(event)).expect(&rt, "memory");
+    }
+    let content = zoe(&rt, alloc);
+    acts.push(Act::Asks(Request::Create { content })).expect(&rt, "memory");
+    let (registry, journal) = (MemoryRegistry::new(alloc), MemoryJournal::new(alloc));
+    let ran = run_among(alloc, registry, journal, base(&rt, alloc), acts.as_slice());
+    let (mut world, reports) = ran.expect(&rt, "a run");
+    for (place, line) in [(0, "other 201"), (7, "confirmed 1"), (9, "other 409")] {
+        let report = reports.get(place).expect(&rt, "a report");
+        assert_same(&rt, printed(&rt, alloc, report).as_str(), line);
+    }
     let ours = "user bob wanted=1 confirmed=1 held=1 version=1 active=true";
     shows(&rt, alloc, &mut world, &bob(&rt, alloc), ours)
 }

@@ -1,5 +1,5 @@
 -- Somebody else's request at the provider of the running world.
-use Rattle.std.proofs.Common.{◌≡◌, ℕ, inl, inr, List, [], ◌∷◌, ◌++◌, Option, Result, Ok, Err, IfErr, refl, ap, subst, ◌∙◌}
+use Rattle.std.proofs.Common.{◌≡◌, ℕ, inl, inr, List, Option, Result, Ok, Err, IfErr, ap, subst, ◌∙◌}
 use Rattle.scim_key.specs.Stores.{HasRisen}
 use Rattle.scim_message.specs.Messages.{answer_status}
 use Rattle.scim_message.specs.declared.messages.Request.{Request}
@@ -13,32 +13,17 @@ use Rattle.provider_core.specs.Stories.{rows_of, step}
 use Rattle.provider_core.specs.declared.registry.Registry.{Ghosts as Registries}
 use Rattle.provider_core.proofs.StoryLaws.{rows_follow_stories}
 use Rattle.journal_core.specs.declared.journals.Journal.{Ghosts as Journals}
-use Rattle.world_model.specs.Invariant.{Names}
-use Rattle.world_model.specs.Others.{Act, Theirs, acts, run_among, IsApart, LeavesAlone}
-use Rattle.world_model.specs.Room.{IsLawfulAct}
+use Rattle.world_model.specs.Others.{Theirs, acts}
 use Rattle.world_model.specs.Safe.{rows as world_rows}
-use Rattle.world_model.specs.World.{World, empty}
-use Rattle.world_sim.specs.Acts.{Answers, FailsToAnswer, IsExcusedTo, IsReachedAmong, write_of, write_request}
+use Rattle.world_model.specs.World.{World}
+use Rattle.world_sim.specs.Acts.{Answers, FailsToAnswer, IsExcusedTo, write_of, write_request}
 use Rattle.world_sim.specs.GoingOn.{unknown_rows}
 use Rattle.world_sim.specs.Running.{HoldsOneOf, IsSound, Mirrors}
 use Rattle.world_sim.specs.Sides.{CountsWorldFault}
 use Rattle.world_sim.specs.declared.reports.WorldFault.{WorldFault}
 use Rattle.world_sim.specs.declared.reports.WorldFault.TheVariants.{Memory, Store}
 use Rattle.world_sim.specs.declared.worlds.World.{World as Running}
-use Rattle.world_sim.proofs.Reaching.{all_more}
-
-run_among-more : (w : World) (all : List Act) (act : Act) → run_among w (all ++ act ∷ []) ≡ acts (run_among w all) act
-run_among-more w [] act = refl
-run_among-more w (a ∷ all) act = run_among-more (acts w a) all act
-
--- one more act of others
-reaches_among : (ours : Names) (w : World) (request : Request) → LeavesAlone ours request → IsReachedAmong ours w → IsReachedAmong ours (acts w (Theirs request))
-reaches_among ours w request alone from = record {
-  acts = from.acts ++ Theirs request ∷ [];
-  apart = all_more (IsApart ours) from.acts (Theirs request) from.apart alone;
-  lawful = all_more IsLawfulAct from.acts (Theirs request) from.lawful tt;
-  is = run_among-more empty from.acts (Theirs request) ∙ ap (λ v. acts v (Theirs request)) from.is;
-}
+use Rattle.world_sim.proofs.Reaching.{reaches}
 
 excused_to : {R J : Type 0} (g : Registries R) (old new : Running R J) (fault : WorldFault) → CountsWorldFault (g.faults old.provider) (g.faults new.provider) fault → IsExcusedTo g old new fault
 excused_to g old new Store counted = inr counted.1
@@ -74,10 +59,11 @@ module _ {R J : Type 0} (g : Registries R) (h : Journals J) (old : Running R J) 
     was = sound_old (λ honest. was_old (was_mid honest));
     stays_open = λ sound faithful. is_open_now sound.registry;
     is = λ sound w m. after sound.registry w m;
-    among = λ sound ours w alone is. record {
+    was_open = λ sound. was_open (opened (was_mid sound.registry));
+    among = λ sound w is alone. record {
       mirrors = after sound.registry w is.mirrors;
       base = is.base;
-      reached = reaches_among ours w request alone is.reached;
+      reached = reaches w (Theirs request) alone tt is.reached;
     };
     answer = λ sound w m. said ∙ ap answer_status (ap (λ p. p.answer) (pending_same sound.registry w m) ∙ (rows_follow_stories w.entries request m.table).answer);
   }

@@ -22,13 +22,14 @@ use Rattle.connector_core.specs.State.{Leaves, LeavesBook, State}
 use Rattle.connector_core.specs.declared.asking.Ask.{Ask}
 use Rattle.connector_core.specs.declared.asking.Ask.TheVariants as asks
 use Rattle.world_model.specs.World.{World, Event, Asked, Answered, Changes, Delivers, Restarts_provider, Restarts_connector, Sends, arrives, message_at, names as world_names, sends}
+use Rattle.world_model.specs.Invariant.{Names}
 use Rattle.world_model.specs.Reports as model
 use Rattle.world_model.specs.Safe.{rows as world_rows}
 use Rattle.world_sim.specs.Events.{report_of}
 use Rattle.world_sim.specs.GoingOn.{FailsOn, GoesOn, IsButForEntries, IsButForRows, unknown_entries, unknown_rows}
 use Rattle.world_sim.specs.Messages.{messages_of, message_text, text_at, texts_of}
 use Rattle.world_sim.specs.Reading.{IsOrMemory}
-use Rattle.world_sim.specs.Running.{Apart, Arrives, FailsToArrive, Happens, HasBook, Is, IsExcused, IsRequest, IsShutOff, IsSound, Mirrors, Posts, ReadsRegistry, Stays, if_restart, is_open, journal_in, known_in}
+use Rattle.world_sim.specs.Running.{Apart, Arrives, FailsToArrive, Happens, HasBook, IsAmong, IsExcused, IsRequest, IsShutOff, IsSound, Mirrors, Posts, ReadsRegistry, Stays, if_restart, is_open, journal_in, known_in}
 use Rattle.world_sim.specs.Sides.{CountsWorldFault, IsOpenedIn}
 use Rattle.world_sim.specs.declared.reading.ReadingFault.TheVariants.{Unread}
 use Rattle.world_sim.specs.declared.reports.Report.{Report}
@@ -37,7 +38,7 @@ use Rattle.world_sim.specs.declared.reports.WorldFault.TheVariants.{Memory, Stor
 use Rattle.world_sim.specs.declared.sides.Side.{Side}
 use Rattle.world_sim.specs.declared.sides.Side.TheVariants.{Open, Shut}
 use Rattle.world_sim.specs.declared.worlds.World.{World as Running}
-use Rattle.world_sim.proofs.Reaching.{formed_same, is_still}
+use Rattle.world_sim.proofs.Reaching.{formed_same, is_at, is_still}
 use Rattle.world_sim.proofs.Restarts.{fails_staying, fails_to_change, fails_to_learn, fails_to_reopen_connector, fails_to_reopen_provider, forgotten_twice, reopens_connector, reopens_provider, restarted, staying, still_there}
 use Rattle.world_sim.proofs.Steps.{are_moved, changes_told, delivers_nothing, delivers_unread, fails_numbered, learns_told, request_told, sends_nothing, sends_told}
 
@@ -72,11 +73,11 @@ module _ {R J : Type 0} (g : Registries R) (h : Journals J) (old : Running R J) 
 
   -- ---- the world as it was, but for what a store holds
 
-  rows_unknown : (new : Running R J) (w : World) → new.connector ≡ old.connector → new.service ≡ old.service → new.sent.items ≡ old.sent.items → IsButForRows g h old w → IsButForRows g h new w
+  rows_unknown : {ours : Names} (new : Running R J) (w : World) → new.connector ≡ old.connector → new.service ≡ old.service → new.sent.items ≡ old.sent.items → IsButForRows g h ours old w → IsButForRows g h ours new w
   rows_unknown new w connector base sent is = still_there (unknown_rows g) h old new w connector base sent (λ none. absurd none) (λ found none. absurd none) is
 
-  entries_unknown : (new : Running R J) (w : World) → new.provider ≡ old.provider → known_in new.connector ≡ known_in old.connector → new.service ≡ old.service → new.sent.items ≡ old.sent.items
-      → IsButForEntries g h old w → IsButForEntries g h new w
+  entries_unknown : {ours : Names} (new : Running R J) (w : World) → new.provider ≡ old.provider → known_in new.connector ≡ known_in old.connector → new.service ≡ old.service → new.sent.items ≡ old.sent.items
+      → IsButForEntries g h ours old w → IsButForEntries g h ours new w
   entries_unknown new w provider known base sent is = is_still g (unknown_entries h) old new w base is (record {
     rows = subst (λ p. g.is_faithful p → g.rows p ≡ world_rows w) (sym provider) is.mirrors.rows;
     found = subst (λ p. (found : List StoredRecord) → g.may_hold p found → found ≡ world_rows w) (sym provider) is.mirrors.found;
@@ -90,7 +91,7 @@ module _ {R J : Type 0} (g : Registries R) (h : Journals J) (old : Running R J) 
 
   -- ---- the connector is unchanged, so its journal holds what it held
 
-  forget : (w : World) → Is g h old w → IsButForEntries g h old w
+  forget : {ours : Names} (w : World) → IsAmong g h ours old w → IsButForEntries g h ours old w
   forget w is = record {
     mirrors = record {
       rows = is.mirrors.rows;
@@ -106,7 +107,7 @@ module _ {R J : Type 0} (g : Registries R) (h : Journals J) (old : Running R J) 
     reached = is.reached;
   }
 
-  remember : (new : Running R J) (w v : World) → new.connector ≡ old.connector → v.book ≡ w.book → world_names v ≡ world_names w → Is g h old w → Mirrors g (unknown_entries h) new v → Mirrors g h new v
+  remember : {ours : Names} (new : Running R J) (w v : World) → new.connector ≡ old.connector → v.book ≡ w.book → world_names v ≡ world_names w → IsAmong g h ours old w → Mirrors g (unknown_entries h) new v → Mirrors g h new v
   remember new w v connector book names is m = record {
     rows = m.rows;
     found = m.found;
@@ -155,7 +156,7 @@ module _ {R J : Type 0} (g : Registries R) (h : Journals J) (old : Running R J) 
     but_for_rows = λ _. fails_staying (unknown_rows g) h old new event fault s still excused;
     but_for_entries = λ _. fails_staying g (unknown_entries h) old new event fault s still excused;
     rows_unknown = λ _ w is. staying (unknown_rows g) h old new s w is;
-    entries_unknown = λ _ w is. subst (λ v. IsButForEntries g h new v) (sym (still w)) (staying g (unknown_entries h) old new s w is);
+    entries_unknown = λ _ w is. is_at g (unknown_entries h) new w (if_restart w event) (still w) (staying g (unknown_entries h) old new s w is);
   }
 
   pub fails_on_memory : (new : Running R J) (event : Event) → Stays old new → ((w : World) → if_restart w event ≡ w) → FailsOn g h old new event Memory

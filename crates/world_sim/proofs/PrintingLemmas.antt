@@ -9,10 +9,11 @@ use Rattle.std.specs.List.{FoldsTo}
 use Rattle.scim_key.specs.declared.records.RecordName.{RecordName}
 use Rattle.provider_core.specs.declared.registry.Registry.{Ghosts as Registries}
 use Rattle.journal_core.specs.declared.journals.Journal.{Ghosts as Journals}
+use Rattle.world_model.specs.Invariant.{Names, all_names}
 use Rattle.world_model.specs.World.{World, Event, empty, names as world_names, run}
 use Rattle.world_sim.specs.Following.{RunsTelling}
 use Rattle.world_sim.specs.Printing.{Ends, EndsPrinting, Prints, PrintsReport, Reaches, SettlesIf, ShowsAll, printed_reports, report_line, report_lines, settled_lines, view_line, view_lines}
-use Rattle.world_sim.specs.Running.{HasBook, Is, IsSound, is_open, names_in}
+use Rattle.world_sim.specs.Running.{HasBook, Is, IsAmong, IsSound, is_open, names_in}
 use Rattle.world_sim.specs.Views.{Looks, Shows, view}
 use Rattle.world_sim.specs.declared.following.TellingFault.{TellingFault}
 use Rattle.world_sim.specs.declared.printing.Printed.{Printed}
@@ -23,6 +24,8 @@ use Rattle.world_sim.specs.declared.sides.Side.{Side}
 use Rattle.world_sim.specs.declared.sides.Side.TheVariants.{Open, Shut}
 use Rattle.world_sim.specs.declared.views.View.{View}
 use Rattle.world_sim.specs.declared.worlds.World.{World as Running}
+use Rattle.world_sim.proofs.Reaching.{is_among}
+use Rattle.world_sim.proofs.SettlingLemmas.{done_is}
 
 -- ---- the lines of reports
 
@@ -44,8 +47,8 @@ view_lines-push (first ∷ views) shown = ap (λ l. view_line first ++ l) (view_
 -- the records before this place were shown
 pub record AreShownSoFar {R J : Type 0} (g : Registries R) (h : Journals J) (old new : Running R J) (names : List RecordName) (views : List View) : Type 0 where
   pub was : IsSound g h new → IsSound g h old
-  pub is : IsSound g h new → (w : World) → Is g h old w → Is g h new w
-  pub shown : IsSound g h new → (w : World) → Is g h old w → views ≡ map (view w) names
+  pub is : IsSound g h new → {ours : Names} (w : World) → IsAmong g h ours old w → IsAmong g h ours new w
+  pub shown : IsSound g h new → {ours : Names} (w : World) → IsAmong g h ours old w → views ≡ map (view w) names
 
 module _ {R J : Type 0} (g : Registries R) (h : Journals J) where
   pub none_shown : (r : Running R J) → AreShownSoFar g h r r [] []
@@ -58,14 +61,17 @@ module _ {R J : Type 0} (g : Registries R) (h : Journals J) where
       subst (λ ns. AreShownSoFar g h old new ns (views ++ one ∷ [])) (sym next) (record {
         was = λ sound. far.was (looks.was sound);
         is = λ sound w is. looks.is sound w (far.is (looks.was sound) w is);
-        shown = λ sound w is.
-            ap (λ vs. vs ++ one ∷ []) (far.shown (looks.was sound) w is)
-            ∙ ap (λ v. map (view w) (take i names) ++ v ∷ []) (shows sound w (far.is (looks.was sound) w is))
-            ∙ sym (map_push (view w) (take i names) name);
+        shown = λ sound w is. all_of sound w is;
       })
+    where
+      all_of : IsSound g h new → {ours : Names} (w : World) → IsAmong g h ours old w → views ++ one ∷ [] ≡ map (view w) (take i names ++ name ∷ [])
+      all_of sound {ours} w is =
+          ap (λ vs. vs ++ one ∷ []) (far.shown (looks.was sound) w is)
+          ∙ ap (λ v. map (view w) (take i names) ++ v ∷ []) (shows sound ours w (far.is (looks.was sound) w is))
+          ∙ sym (map_push (view w) (take i names) name)
 
   -- the names of an open connector are those of each world that runs
-  pub names_are : (r : Running R J) (w : World) → is_open r.connector ≡ true → Is g h r w → names_in h r.connector ≡ world_names w
+  pub names_are : {ours : Names} (r : Running R J) (w : World) → is_open r.connector ≡ true → IsAmong g h ours r w → names_in h r.connector ≡ world_names w
   names_are r w opened is = of_side r.connector opened is.mirrors.book
     where
       of_side : (side : Side J) → is_open side ≡ true → HasBook side w.book (world_names w) → names_in h side ≡ world_names w
@@ -89,11 +95,11 @@ module _ {R J : Type 0} (g : Registries R) (h : Journals J) where
   settled_was false old new None settles sound = subst (λ r. IsSound g h r) settles sound
 
   settled_reaches : (asked : Bool) (old new : Running R J) (count : Option Count) → SettlesIf g h asked old new count → IsSound g h new → (w : World) → Is g h old w
-      → (v : World) × Reaches w count v × Is g h new v
-  settled_reaches true old new (Some count) settles sound w is = (run w settles.done.events, settles.settling sound w is, settles.done.runs.is sound w is)
+      → (v : World) × Reaches w count v × IsAmong g h all_names new v
+  settled_reaches true old new (Some count) settles sound w is = (run w settles.done.events, settles.settling sound w is, done_is g h settles.done sound w (is_among g h old w is))
   settled_reaches true old new None settles sound w is = absurd settles
   settled_reaches false old new (Some count) settles sound w is = absurd settles
-  settled_reaches false old new None settles sound w is = (w, refl, subst (λ r. Is g h r w) (sym settles) is)
+  settled_reaches false old new None settles sound w is = (w, refl, subst (λ r. IsAmong g h all_names r w) (sym settles) (is_among g h old w is))
 
   counted : (asked : Bool) (old new : Running R J) (count : Option Count) → SettlesIf g h asked old new count → is_some count ≡ asked
   counted true old new (Some count) settles = refl

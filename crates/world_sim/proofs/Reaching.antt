@@ -1,19 +1,28 @@
 -- What valid events lead to, and that each message there is read from its bytes as exactly that message.
-use Rattle.std.proofs.Common.{◌≡◌, ℕ, zero, suc, List, [], ◌∷◌, ◌++◌, Some, map, refl, ap, sym, ◌∙◌, subst}
+use Rattle.std.proofs.Common.{◌≡◌, ℕ, Bool, true, false, zero, suc, List, [], ◌∷◌, ◌++◌, Option, Some, None, map, refl, ap, sym, ◌∙◌, subst}
 use Rattle.std.specs.List.{AllByRecursion, slice_get}
 use Rattle.std.specs.Option.{option_map}
 use Rattle.scim_key.specs.Bases.{IsBase}
+use Rattle.provider_core.specs.Stories.{Entry, Numbered, entry_with_id, reading_entry, retrieving_entry}
 use Rattle.provider_core.specs.declared.registry.Registry.{Ghosts as Registries}
 use Rattle.journal_core.specs.declared.journals.Journal.{Ghosts as Journals}
 use Rattle.world_model.specs.Safe.{Has, IsAt}
 use Rattle.world_model.specs.Untroubled.{IsLawful}
+use Rattle.world_model.specs.Invariant.{Names, all_names}
+use Rattle.world_model.specs.Others.{Act, Ours, Theirs, acts, run_among, IsApart, KeepsApart, LeavesAlone, OfOurs}
+use Rattle.world_model.specs.Room.{IsLawfulAct}
 use Rattle.world_model.specs.World.{World, Message, Event, happens, empty, message_at, run}
+use Rattle.world_model.proofs.Alone.{room_without_others}
+use Rattle.world_model.proofs.Others.{without_others}
+use Rattle.scim_version.specs.declared.conditions.Condition.{Condition}
+use Rattle.scim_message.specs.declared.messages.Request.{Request}
+use Rattle.scim_message.specs.declared.messages.Request.TheVariants.{Create, Retrieve, Search, Replace}
 use Rattle.world_sim.specs.Fitting.{IsFormed}
 use Rattle.world_sim.specs.Messages.{message_text, messages_of, text_at, texts_of}
 use Rattle.world_sim.specs.Reading.{IsReadAs}
-use Rattle.world_sim.specs.Running.{Is, IsReached, Mirrors}
+use Rattle.world_sim.specs.Running.{Is, IsAlone, IsAmong, IsReached, IsReachedAmong, Mirrors}
 use Rattle.world_sim.specs.declared.worlds.World.{World as Running}
-use Rattle.world_sim.proofs.Fitting.{messages_are_read}
+use Rattle.world_sim.proofs.Fitting.{messages_are_read_among}
 
 pub at_map : {X Y : Type 0} (f : X → Y) (xs : List X) (place : ℕ) → option_map f (slice_get xs place) ≡ slice_get (map f xs) place
 at_map f [] place = refl
@@ -28,12 +37,65 @@ pub all_more : {X : Type 0} (P : X → Type 0) (xs : List X) (x : X) → AllByRe
 all_more P [] x all last = (last, tt)
 all_more P (y ∷ xs) x all last = (all.0, all_more P xs x all.1 last)
 
--- one more valid event
-reaches : (w : World) (event : Event) → IsLawful event → IsReached w → IsReached (happens w event)
-reaches w event law from = record {
-  events = from.events ++ event ∷ [];
-  lawful = all_more IsLawful from.events event from.lawful law;
-  is = run-more empty from.events event ∙ ap (λ v. happens v event) from.is;
+run_among-more : (w : World) (all : List Act) (act : Act) → run_among w (all ++ act ∷ []) ≡ acts (run_among w all) act
+run_among-more w [] act = refl
+run_among-more w (a ∷ all) act = run_among-more (acts w a) all act
+
+-- one more act
+pub reaches : {ours : Names} (w : World) (act : Act) → IsApart ours act → IsLawfulAct act → IsReachedAmong ours w → IsReachedAmong ours (acts w act)
+reaches {ours} w act apart law from = record {
+  acts = from.acts ++ act ∷ [];
+  apart = all_more (IsApart ours) from.acts act from.apart apart;
+  lawful = all_more IsLawfulAct from.acts act from.lawful law;
+  is = run_among-more empty from.acts act ∙ ap (λ v. acts v act) from.is;
+}
+
+-- ---- without others
+
+-- a Retrieve changes nothing
+reading : (match_holds none_match_holds : Bool) (n : Numbered) (es : List Entry) → (reading_entry match_holds none_match_holds n es).entries ≡ es
+reading false false n es = refl
+reading false true n es = refl
+reading true false n es = refl
+reading true true n es = refl
+
+retrieving : (o : Option Numbered) (es : List Entry) (if_match if_none_match : Condition) → (retrieving_entry o es if_match if_none_match).entries ≡ es
+retrieving None es if_match if_none_match = refl
+retrieving (Some n) es if_match if_none_match = reading _ _ n es
+
+-- others who leave all records alone change nothing
+reads_only : (w : World) (request : Request) → LeavesAlone all_names request → acts w (Theirs request) ≡ w
+reads_only w (Create content) alone = absurd (cc alone)
+reads_only w (Retrieve kind id if_match if_none_match) alone =
+    ap (λ es. record w { entries = es }) (retrieving (entry_with_id kind id w.entries) w.entries if_match if_none_match)
+reads_only w (Search kind wanted start count) alone = refl
+reads_only w (Replace id content if_match if_none_match) alone = absurd (cc alone)
+
+-- our events among these acts
+abbrev ours_in : List Act → List Event
+ours_in [] = []
+ours_in (Ours event ∷ acts) = event ∷ ours_in acts
+ours_in (Theirs request ∷ acts) = ours_in acts
+
+ours_lawful : (all : List Act) → AllByRecursion IsLawfulAct all → AllByRecursion IsLawful (ours_in all)
+ours_lawful [] law = tt
+ours_lawful (Ours event ∷ all) law = (law.0, ours_lawful all law.1)
+ours_lawful (Theirs request ∷ all) law = ours_lawful all law.1
+
+ours_same : (w : World) (all : List Act) → KeepsApart all_names all → run w (ours_in all) ≡ run_among w all
+ours_same w [] apart = refl
+ours_same w (Ours event ∷ all) apart = ours_same (happens w event) all apart.1
+ours_same w (Theirs request ∷ all) apart = ours_same w all apart.1 ∙ ap (λ v. run_among v all) (sym (reads_only w request apart.0))
+
+pub alone_reached : (w : World) → IsReachedAmong all_names w → IsReached w
+alone_reached w r = record { events = ours_in r.acts; lawful = ours_lawful r.acts r.lawful; is = ours_same empty r.acts r.apart ∙ r.is }
+
+pub among_reached : (w : World) → IsReached w → IsReachedAmong all_names w
+among_reached w r = record {
+  acts = map Ours r.events;
+  apart = without_others.apart r.events;
+  lawful = room_without_others.lawful r.events r.lawful;
+  is = without_others.runs empty r.events ∙ r.is;
 }
 
 none_formed : (base : List ℕ) (place : ℕ) (message : Message) → IsAt [] place message → IsFormed base message
@@ -57,24 +119,39 @@ pub formed_same : (old new : List ℕ) (messages : List Message) → new ≡ old
 formed_same old new messages same all message has = subst (λ b. IsFormed b message) (sym same) (all message has)
 
 module _ {R J : Type 0} (g : Registries R) (h : Journals J) where
+  -- without others
+  pub is_among : (r : Running R J) (w : World) → Is g h r w → IsAmong g h all_names r w
+  is_among r w is = record { mirrors = is.mirrors; base = is.base; reached = among_reached w is.reached }
+
+  pub is_of_ours : (r : Running R J) (w : World) → IsAmong g h all_names r w → Is g h r w
+  is_of_ours r w is = record { mirrors = is.mirrors; base = is.base; reached = alone_reached w is.reached }
+
+  pub is_alone : IsAlone g h
+  is_alone r w = (is_among r w, is_of_ours r w)
+
   -- an empty world at a valid base
-  pub is_empty : (r : Running R J) → IsBase r.service → Mirrors g h r empty → Is g h r empty
-  is_empty r base mirrors = record { mirrors = mirrors; base = base; reached = record { events = []; lawful = tt; is = refl } }
+  pub is_empty : (ours : Names) (r : Running R J) → IsBase r.service → Mirrors g h r empty → IsAmong g h ours r empty
+  is_empty ours r base mirrors = record { mirrors = mirrors; base = base; reached = record { acts = []; apart = tt; lawful = tt; is = refl } }
 
   pub formed_none : (r : Running R J) (message : Message) → Has [] message → IsFormed r.service message
   formed_none r message has = none_formed r.service has.0 message has.1
 
+  -- in the same world, told otherwise
+  pub is_at : {ours : Names} (r : Running R J) (w v : World) → v ≡ w → IsAmong g h ours r w → IsAmong g h ours r v
+  is_at {ours} r w v same is = subst (λ u. IsAmong g h ours r u) (sym same) is
+
   module _ (old : Running R J) where
     -- what has the parts of a world after a valid event is that world
-    pub is_after : (new : Running R J) (w : World) (event : Event) → IsLawful event → new.service ≡ old.service → Is g h old w → Mirrors g h new (happens w event) → Is g h new (happens w event)
-    is_after new w event law same is mirrors = record { mirrors = mirrors; base = subst IsBase (sym same) is.base; reached = reaches w event law is.reached }
+    pub is_after : {ours : Names} (new : Running R J) (w : World) (event : Event) → OfOurs ours event → IsLawful event → new.service ≡ old.service → IsAmong g h ours old w → Mirrors g h new (happens w event)
+        → IsAmong g h ours new (happens w event)
+    is_after new w event own law same is mirrors = record { mirrors = mirrors; base = subst IsBase (sym same) is.base; reached = reaches w (Ours event) own law is.reached }
 
-    pub is_still : (new : Running R J) (w : World) → new.service ≡ old.service → Is g h old w → Mirrors g h new w → Is g h new w
+    pub is_still : {ours : Names} (new : Running R J) (w : World) → new.service ≡ old.service → IsAmong g h ours old w → Mirrors g h new w → IsAmong g h ours new w
     is_still new w same is mirrors = record { mirrors = mirrors; base = subst IsBase (sym same) is.base; reached = is.reached }
 
     -- the bytes with a number are those of the message with that number
     pub text_is : (number : ℕ) (message : Message) (bytes : List ℕ) → message_at (messages_of old.sent.items) number ≡ Some message → text_at (texts_of old.sent.items) number ≡ Some bytes
-        → (w : World) → Is g h old w → bytes ≡ message_text old.service message
+        → {ours : Names} (w : World) → IsAmong g h ours old w → bytes ≡ message_text old.service message
     text_is zero message bytes said text w is = absurd (cc said)
     text_is (suc place) message bytes said text w is =
         let m = is.mirrors in
@@ -85,10 +162,10 @@ module _ {R J : Type 0} (g : Registries R) (h : Journals J) where
 
     -- and they are read as just that message
     pub sent_is_read : (number : ℕ) (message : Message) (bytes : List ℕ) → message_at (messages_of old.sent.items) number ≡ Some message → text_at (texts_of old.sent.items) number ≡ Some bytes
-        → (w : World) → Is g h old w → IsReadAs bytes message
+        → {ours : Names} (w : World) → IsAmong g h ours old w → IsReadAs bytes message
     sent_is_read zero message bytes said text w is = absurd (cc said)
-    sent_is_read (suc place) message bytes said text w is =
+    sent_is_read (suc place) message bytes said text {ours} w is =
         let there : slice_get w.messages place ≡ Some message = ap (λ ms. slice_get ms place) (sym is.mirrors.messages) ∙ said in
-        let ran : slice_get (run empty is.reached.events).messages place ≡ Some message = ap (λ (v : World). slice_get v.messages place) is.reached.is ∙ there in
+        let ran : slice_get (run_among empty is.reached.acts).messages place ≡ Some message = ap (λ (v : World). slice_get v.messages place) is.reached.is ∙ there in
         subst (λ (t : List ℕ). IsReadAs t message) (sym (text_is (suc place) message bytes said text w is))
-        (messages_are_read old.service is.reached.events message is.base is.reached.lawful (place, ran) (is.mirrors.formed message (place, there)))
+        (messages_are_read_among old.service ours is.reached.acts message is.base is.reached.apart is.reached.lawful (place, ran) (is.mirrors.formed message (place, there)))

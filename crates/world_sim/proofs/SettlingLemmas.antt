@@ -13,17 +13,21 @@ use Rattle.connector_core.specs.Book.{Book}
 use Rattle.connector_core.specs.declared.asking.Ask.{Ask}
 use Rattle.connector_core.specs.declared.asking.Ask.TheVariants.{Nothing, Waits, Send}
 use Rattle.scim_message.specs.declared.messages.Request.{Request}
+use Rattle.world_model.specs.Invariant.{Names}
+use Rattle.world_model.specs.Others.{OfOurs, run_among}
 use Rattle.world_model.specs.Reports as model
+use Rattle.world_model.specs.Room.{HasRoom, LeavesRoom, Meanwhile}
 use Rattle.world_model.specs.Settled.{Exchanges, Turns, Wants, exchange}
 use Rattle.world_model.specs.World.{World, Message, Asked, Answered, Event, Changes, Sends, Delivers, Cuts, Restarts_provider, Restarts_connector, empty, happens, message_at, names, run, sends}
-use Rattle.world_model.proofs.Calm.{always_calm}
+use Rattle.world_model.proofs.Alone.{room_without_others}
+use Rattle.world_model.proofs.Calm.{calm_among}
 use Rattle.world_model.proofs.Counting.{few_names}
 use Rattle.world_model.proofs.Exchanging.{answer_to, sent_is}
 use Rattle.world_model.proofs.OneWay.{leads_on}
-use Rattle.world_model.proofs.Settling.{settles}
+use Rattle.world_model.proofs.Settling.{settles_among}
 use Rattle.world_sim.specs.Events.{report_of}
 use Rattle.world_sim.specs.Messages.{message_size, messages_of}
-use Rattle.world_sim.specs.Running.{Fails, Happens, HasBook, Is, IsExcused, IsKnown, IsOpenTo, IsReached, IsSound, Runs, if_restart, is_open, journal_in, names_in}
+use Rattle.world_sim.specs.Running.{Fails, Happens, HasBook, IsAmong, IsExcused, IsKnown, IsOpenTo, IsReached, IsReachedAmong, IsSound, Runs, if_restart, is_open, journal_in, names_in}
 use Rattle.world_sim.specs.Settling.{IsSendOrDeliver, IsSettling, MaySettle, SendsAndDelivers, Settles, SettlesRecord, Stops, TakesStep}
 use Rattle.world_sim.specs.Views.{IsNoName}
 use Rattle.world_sim.specs.declared.reports.Report.{Report}
@@ -32,8 +36,9 @@ use Rattle.world_sim.specs.declared.reports.WorldFault.TheVariants.{Memory, Stor
 use Rattle.world_sim.specs.declared.sides.Side.{Side}
 use Rattle.world_sim.specs.declared.sides.Side.TheVariants.{Open, Shut}
 use Rattle.world_sim.specs.declared.worlds.World.{World as Running}
+use Rattle.world_sim.proofs.Reaching.{among_reached, is_among, is_at, is_of_ours}
 use Rattle.world_sim.proofs.Steps.{as_many}
-use Rattle.world_sim.proofs.WholeRuns.{runs_none, runs_on}
+use Rattle.world_sim.proofs.WholeRuns.{own_back, own_front, runs_none, runs_on}
 
 -- ---- events one after the other
 
@@ -49,6 +54,18 @@ reports-append size w (event ∷ events) more = ap (λ rs. model.report size w e
 pub all-append : {X : Type 0} (P : X → Type 0) (xs ys : List X) → AllByRecursion P xs → AllByRecursion P ys → AllByRecursion P (xs ++ ys)
 all-append P [] ys all more = more
 all-append P (x ∷ xs) ys all more = (all.0, all-append P xs ys all.1 more)
+
+own_event : (ours : Names) (event : Event) → IsSendOrDeliver event → OfOurs ours event
+own_event ours (Changes row) is = absurd is
+own_event ours (Sends name) is = tt
+own_event ours (Delivers number) is = tt
+own_event ours (Cuts number length) is = absurd is
+own_event ours Restarts_provider is = absurd is
+own_event ours Restarts_connector is = absurd is
+
+own_events : (ours : Names) (events : List Event) → AllByRecursion IsSendOrDeliver events → AllByRecursion (OfOurs ours) events
+own_events ours [] all = tt
+own_events ours (event ∷ events) all = (own_event ours event all.0, own_events ours events all.1)
 
 -- ---- what the model says about exchanges
 
@@ -96,14 +113,26 @@ most_turns (name ∷ all) w count v turns =
     let (here, there, u, within, exchanges, rests, more, sum) = turns in
     omega (arith, within, sum, most_turns all u there v more)
 
-may_settle : (w : World) → IsReached w → MaySettle w
-may_settle w reached =
-    let (count, v, turns, settled) = settles reached.events reached.lawful in
-    subst MaySettle reached.is (count, v, record { turns = turns; settled = settled })
+-- our events alone leave room
+room_alone : (w : World) → IsReached w → HasRoom w
+room_alone w reached = subst HasRoom reached.is (room_without_others.room reached.events reached.lawful)
 
-small_count : (w : World) → IsReached w → (count : ℕ) (v : World) → Turns w (names w) count v → count < 2 ^ 32
-small_count w reached count v turns =
-    let few = few_names (run empty reached.events).history (always_calm reached.events reached.lawful).quiet.counted in
+-- others who do nothing
+abbrev nobody : Meanwhile
+nobody w = []
+
+nobody_leaves : (ours : Names) → LeavesRoom ours nobody
+nobody_leaves ours = record { alone = λ w. tt; room = λ w room. room }
+
+may_settle : {ours : Names} (w : World) → HasRoom w → IsReachedAmong ours w → MaySettle w
+may_settle {ours} w room reached =
+    let (count, v, turns, settled) = settles_among ours reached.acts nobody reached.apart reached.lawful (subst HasRoom (sym reached.is) room) (nobody_leaves ours) in
+    subst MaySettle reached.is (count, v, record { turns = (room_without_others.turns (run_among empty reached.acts) (names (run_among empty reached.acts)) count v).1 turns; settled = settled })
+
+small_count : {ours : Names} (w : World) → HasRoom w → IsReachedAmong ours w → (count : ℕ) (v : World) → Turns w (names w) count v → count < 2 ^ 32
+small_count {ours} w room reached count v turns =
+    let calm = calm_among ours reached.acts reached.apart reached.lawful (subst HasRoom (sym reached.is) room) in
+    let few = few_names (run_among empty reached.acts).history calm.quiet.counted in
     omega (arith, most_turns (names w) w count v turns, few, ap (λ (v : World). length (names v)) reached.is)
 
 -- ---- what runs
@@ -116,11 +145,12 @@ module _ {R J : Type 0} (g : Registries R) (h : Journals J) where
     base = two.base ∙ one.base;
     stays_open = λ sound faithful. two.stays_open sound (one.stays_open (two.was sound) faithful);
     journal_open = λ sound faithful. two.journal_open sound (one.journal_open (two.was sound) faithful);
-    is = λ sound w is. subst (λ v. Is g h new v) (sym (run-append w events more)) (two.is sound (run w events) (one.is (two.was sound) w is));
-    told_so = λ sound w is. map-append report_of told more_told
-        ∙ ap (λ rs. rs ++ map report_of more_told) (one.told_so (two.was sound) w is)
+    is = λ sound w is own. is_at g h new (run (run w events) more) (run w (events ++ more)) (run-append w events more)
+        (two.is sound (run w events) (one.is (two.was sound) w is (own_front g h old w is events more own)) (own_back g h old w is events more own));
+    told_so = λ sound w is own. map-append report_of told more_told
+        ∙ ap (λ rs. rs ++ map report_of more_told) (one.told_so (two.was sound) w is (own_front g h old w is events more own))
         ∙ ap (λ rs. model.reports (message_size old.service) w events ++ rs)
-        (two.told_so sound (run w events) (one.is (two.was sound) w is) ∙ ap (λ b. model.reports (message_size b) (run w events) more) one.base)
+        (two.told_so sound (run w events) (one.is (two.was sound) w is (own_front g h old w is events more own)) (own_back g h old w is events more own) ∙ ap (λ b. model.reports (message_size b) (run w events) more) one.base)
         ∙ sym (reports-append (message_size old.service) w events more);
   }
 
@@ -137,6 +167,10 @@ module _ {R J : Type 0} (g : Registries R) (h : Journals J) where
     told = one.told ++ two.told;
     runs = runs_both old mid new one.events two.events one.told two.told one.runs two.runs;
   }
+
+  -- the world after what was done runs
+  pub done_is : {ours : Names} {old new : Running R J} (done : SendsAndDelivers g h old new) → IsSound g h new → (w : World) → IsAmong g h ours old w → IsAmong g h ours new (run w done.events)
+  done_is {ours} done sound w is = done.runs.is sound w is (own_events ours done.events done.only)
 
   -- ---- faults
 
@@ -170,11 +204,18 @@ module _ {R J : Type 0} (g : Registries R) (h : Journals J) where
     is_next = is_next;
     fails = fails;
     again = λ sound faithful journal w is.
-        let there = done.runs.is (fails.was sound) w is in
-        let failed = fails.is sound (is_known between new next is_next faithful journal) (run w done.events) there in
-        let still : Is g h new (run w done.events) = subst (λ v. Is g h new v) (no_restart (run w done.events) next is_next) failed in
-        (still, may_settle (run w done.events) still.reached);
+        let alone = is_of_ours g h new (run w done.events) (still sound faithful journal w (is_among g h old w is)) in
+        (alone, may_settle (run w done.events) (room_alone (run w done.events) alone.reached) (among_reached (run w done.events) alone.reached));
+    among = λ sound faithful journal w is.
+        let there = still sound faithful journal w is in
+        (there, λ room. may_settle (run w done.events) room there.reached);
   }
+    where
+      still : IsSound g h new → g.is_faithful new.provider → h.is_faithful (journal_in new.connector) → {ours : Names} (w : World) → IsAmong g h ours old w → IsAmong g h ours new (run w done.events)
+      still sound faithful journal {ours} w is =
+          let there = done_is done (fails.was sound) w is in
+          let failed = fails.is sound (is_known between new next is_next faithful journal) (run w done.events) there in
+          subst (λ v. IsAmong g h ours new v) (no_restart (run w done.events) next is_next) failed
 
   pub stops_after : (old mid new : Running R J) → SendsAndDelivers g h old mid → (fault : WorldFault) → Stops g h mid new fault → Stops g h old new fault
   stops_after old mid new done fault s = stops old s.between new (both_done old mid s.between done s.done) s.next s.is_next fault s.fails
@@ -204,7 +245,7 @@ module _ {R J : Type 0} (g : Registries R) (h : Journals J) where
   takes_none old new name told did same = record {
     done = one_done old new (Sends name) tt told did;
     step = λ sound w is.
-        let there = did.is sound w is in
+        let there = did.is sound w is tt in
         none_sent w name (asking w.book name) refl (sym (as_many g h new (happens w (Sends name)) there) ∙ same ∙ as_many g h old w is);
   }
 
@@ -215,8 +256,8 @@ module _ {R J : Type 0} (g : Registries R) (h : Journals J) where
     done = both_done old one new (one_done old one (Sends name) tt sent sends_it)
         (both_done one two new (one_done one two (Delivers request) tt asked takes_it) (one_done two new (Delivers reply) tt answered learns_it));
     step = λ sound w is.
-        let at_one = sends_it.is (takes_it.was (learns_it.was sound)) w is in
-        let at_two = takes_it.is (learns_it.was sound) (happens w (Sends name)) at_one in
+        let at_one = sends_it.is (takes_it.was (learns_it.was sound)) w is tt in
+        let at_two = takes_it.is (learns_it.was sound) (happens w (Sends name)) at_one tt in
         let many = as_many g h one (happens w (Sends name)) at_one in
         let wants = some_sent w name (asking w.book name) refl (λ same. other (many ∙ same ∙ sym (as_many g h old w is))) in
         let first : request ≡ suc (length w.messages) = is_request ∙ many ∙ sent_length w name wants.0 wants.1 in
@@ -232,7 +273,7 @@ module _ {R J : Type 0} (g : Registries R) (h : Journals J) where
   -- the exchanges for the record so far
   pub record IsSoFar (old new : Running R J) (name : RecordName) (count : ℕ) : Type 0 where
     pub done : SendsAndDelivers g h old new
-    pub made : IsSound g h new → (w : World) → Is g h old w → Exchanges w name count (run w done.events)
+    pub made : IsSound g h new → {ours : Names} (w : World) → IsAmong g h ours old w → Exchanges w name count (run w done.events)
 
   pub none_so_far : (r : Running R J) (name : RecordName) → IsSoFar r r name 0
   none_so_far r name = record { done = none_done r; made = λ sound w is. refl }
@@ -242,7 +283,7 @@ module _ {R J : Type 0} (g : Registries R) (h : Journals J) where
     done = both_done old mid new so.done step.done;
     made = λ sound w is.
         let was = step.done.runs.was sound in
-        let there = so.done.runs.is was w is in
+        let there = done_is so.done was w is in
         let next = step.step sound (run w so.done.events) there in
         let more : Exchanges w name (suc count) (exchange (run w so.done.events) name) = more_exchanges count w name (run w so.done.events) (so.made was w is) next.0 in
         let same : run w (so.done.events ++ step.done.events) ≡ exchange (run w so.done.events) name = run-append w so.done.events step.done.events ∙ next.1 in
@@ -256,7 +297,7 @@ module _ {R J : Type 0} (g : Registries R) (h : Journals J) where
     most = most;
     made = λ sound w is n v few all rests.
         let was = step.done.runs.was sound in
-        let there = so.done.runs.is was w is in
+        let there = done_is so.done was w is in
         let next = step.step sound (run w so.done.events) there in
         let (left, sum, more) = leads_on w name count n (run w so.done.events) v (so.made was w is) all rests in
         let end = at_end left (run w so.done.events) name v next.0 more in
@@ -280,7 +321,7 @@ module _ {R J : Type 0} (g : Registries R) (h : Journals J) where
   pub record AreSoFar (old new : Running R J) (all : List RecordName) (place exchanges : ℕ) : Type 0 where
     pub done : SendsAndDelivers g h old new
     pub most : exchanges ≤ 3 * place
-    pub lead : IsSound g h new → (w : World) → Is g h old w → (count : ℕ) (v : World) → count < 2 ^ 32 → Turns w all count v
+    pub lead : IsSound g h new → {ours : Names} (w : World) → IsAmong g h ours old w → (count : ℕ) (v : World) → count < 2 ^ 32 → Turns w all count v
         → (left : ℕ) × Turns (run w done.events) (drop place all) left v × (exchanges + left ≡ count)
 
   pub none_settled : (r : Running R J) (all : List RecordName) → AreSoFar r r all 0 0
@@ -293,7 +334,7 @@ module _ {R J : Type 0} (g : Registries R) (h : Journals J) where
     most = omega (arith, total, so.most, s.most);
     lead = λ sound w is count v small turns.
         let was = s.done.runs.was sound in
-        let there = so.done.runs.is was w is in
+        let there = done_is so.done was w is in
         let u = run w so.done.events in
         let (left, rest, counted) = so.lead was w is count v small turns in
         let next : place + 1 ≡ suc place = omega arith in
@@ -308,17 +349,22 @@ module _ {R J : Type 0} (g : Registries R) (h : Journals J) where
   open_names (Open connector) book all is has = has.1
   open_names (Shut journal) book all is has = absurd (cc)
 
+  settling : {ours : Names} (old new : Running R J) (all : List RecordName) (place exchanges : ℕ) → place ≡ length all → all ≡ names_in h old.connector → is_open old.connector ≡ true → (so : AreSoFar old new all place exchanges)
+      → IsSound g h new → (w : World) → HasRoom w → IsAmong g h ours old w → IsSettling w exchanges (run w so.done.events)
+  settling old new all place exchanges past named opened so sound w room is =
+      let (count, v, s) = may_settle w room is.reached in
+      let same : all ≡ names w = named ∙ open_names old.connector w.book (names w) opened is.mirrors.book in
+      let small = small_count w room is.reached count v s.turns in
+      let (left, rest, counted) = so.lead sound w is count v small (subst (λ (ns : List RecordName). Turns w ns count v) (sym same) s.turns) in
+      let end : (v ≡ run w so.done.events) × (left ≡ 0) = subst (λ (ns : List RecordName). Turns (run w so.done.events) ns left v) (drop_all place all (omega (arith, past))) rest in
+      let exact : count ≡ exchanges = omega (arith, counted, end.1) in
+      subst (λ (u : World). IsSettling w exchanges u) end.0 (subst (λ n. IsSettling w n v) exact s)
+
   pub all_settled : (old new : Running R J) (all : List RecordName) (place exchanges : ℕ) → place ≡ length all → all ≡ names_in h old.connector → is_open old.connector ≡ true → AreSoFar old new all place exchanges
       → Settles g h old new (record { exchanges = exchanges })
   all_settled old new all place exchanges past named opened so = record {
     done = so.done;
     most = omega (arith, so.most, past, ap (λ (ns : List RecordName). length ns) named);
-    settling = λ sound w is.
-        let (count, v, s) = may_settle w is.reached in
-        let same : all ≡ names w = named ∙ open_names old.connector w.book (names w) opened is.mirrors.book in
-        let small = small_count w is.reached count v s.turns in
-        let (left, rest, counted) = so.lead sound w is count v small (subst (λ (ns : List RecordName). Turns w ns count v) (sym same) s.turns) in
-        let end : (v ≡ run w so.done.events) × (left ≡ 0) = subst (λ (ns : List RecordName). Turns (run w so.done.events) ns left v) (drop_all place all (omega (arith, past))) rest in
-        let exact : count ≡ exchanges = omega (arith, counted, end.1) in
-        subst (λ (u : World). IsSettling w exchanges u) end.0 (subst (λ n. IsSettling w n v) exact s);
+    settling = λ sound w is. settling old new all place exchanges past named opened so sound w (room_alone w is.reached) (is_among g h old w is);
+    among = λ sound w is room. settling old new all place exchanges past named opened so sound w room is;
   }

@@ -4,6 +4,7 @@ use Rattle.std.proofs.lemmas.List.{map_push}
 use Rattle.std.specs.FinMap.{get, get-empty, keys}
 use Rattle.std.specs.FinMap as fin
 use Rattle.journal_core.specs.declared.entries.Entry.{Entry}
+use Rattle.std.specs.List.{AllByRecursion}
 use Rattle.std.specs.Option.{option_map}
 use Rattle.scim_key.specs.Bases.{IsBase}
 use Rattle.scim_key.specs.Records.{name_cmp}
@@ -14,7 +15,10 @@ use Rattle.journal_core.specs.declared.journals.Journal.{Ghosts as Journals}
 use Rattle.connector_core.specs.Book.{empty_book}
 use Rattle.connector_core.specs.Maps.{book_of}
 use Rattle.connector_core.specs.State.{State, IsOpened, LeavesBook, opened}
+use Rattle.world_model.specs.Invariant.{Names, all_names}
+use Rattle.world_model.specs.Others.{OfOurs}
 use Rattle.world_model.specs.World.{World, Message, Event, happens, empty, run}
+use Rattle.world_model.proofs.Invariant.{all_of_ours}
 use Rattle.world_model.specs.Reports as model
 use Rattle.world_model.proofs.Safety.{always_safe}
 use Rattle.world_model.proofs.Onwards.{always_onward}
@@ -26,11 +30,11 @@ use Rattle.world_sim.specs.declared.events.Event.{Event as EventOf}
 use Rattle.world_sim.specs.declared.reports.WorldFault.{WorldFault}
 use Rattle.world_sim.specs.declared.reports.WorldFault.TheVariants.{Memory, Store}
 use Rattle.world_sim.specs.Messages.{messages_of, texts_of, message_size}
-use Rattle.world_sim.specs.Running.{IsSound, Is, Apart, Happens, Fails, HasBook, Keeps, Starts, Runs, RunsFromEmpty, EndsRun, journal_in, opens_of}
+use Rattle.world_sim.specs.Running.{IsSound, IsAmong, Apart, Happens, Fails, HasBook, Keeps, Starts, Runs, RunsFromEmpty, EndsRun, journal_in, opens_of}
 use Rattle.world_sim.specs.declared.reports.Report.{Report}
 use Rattle.world_sim.specs.declared.sides.Side.TheVariants.{Open}
 use Rattle.world_sim.specs.declared.worlds.World.{World as Running}
-use Rattle.world_sim.proofs.Reaching.{run-more, formed_none, is_empty}
+use Rattle.world_sim.proofs.Reaching.{run-more, formed_none, is_at, is_empty, is_of_ours}
 use Rattle.world_sim.proofs.Steps.{are_moved}
 use Rattle.world_sim.proofs.Walks.{events_split}
 
@@ -46,9 +50,28 @@ reports-more : (size : Message → ℕ) (w : World) (events : List Event) (event
 reports-more size w [] event = refl
 reports-more size w (e ∷ events) event = ap (λ rs. model.report size w e ∷ rs) (reports-more size (happens w e) events event)
 
+pub all_front : {X : Type 0} (P : X → Type 0) (xs ys : List X) → AllByRecursion P (xs ++ ys) → AllByRecursion P xs
+all_front P [] ys all = tt
+all_front P (x ∷ xs) ys all = (all.0, all_front P xs ys all.1)
+
+pub all_back : {X : Type 0} (P : X → Type 0) (xs ys : List X) → AllByRecursion P (xs ++ ys) → AllByRecursion P ys
+all_back P [] ys all = all
+all_back P (x ∷ xs) ys all = all_back P xs ys all.1
+
+-- without others, each event is of ours
+all_own : (events : List Event) → AllByRecursion (OfOurs all_names) events
+all_own [] = tt
+all_own (event ∷ events) = (all_of_ours event, all_own events)
+
 module _ {R J : Type 0} (g : Registries R) (h : Journals J) where
+  pub own_front : {ours : Names} (r : Running R J) (w : World) → IsAmong g h ours r w → (events more : List Event) → AllByRecursion (OfOurs ours) (events ++ more) → AllByRecursion (OfOurs ours) events
+  own_front {ours} r w is events more own = all_front (OfOurs ours) events more own
+
+  pub own_back : {ours : Names} (r : Running R J) (w : World) → IsAmong g h ours r w → (events more : List Event) → AllByRecursion (OfOurs ours) (events ++ more) → AllByRecursion (OfOurs ours) more
+  own_back {ours} r w is events more own = all_back (OfOurs ours) events more own
+
   pub runs_none : (r : Running R J) → Runs g h r r [] []
-  runs_none r = record { was = λ sound. sound; base = refl; stays_open = λ sound faithful. faithful; journal_open = λ sound faithful. faithful; is = λ sound w is. is; told_so = λ sound w is. refl }
+  runs_none r = record { was = λ sound. sound; base = refl; stays_open = λ sound faithful. faithful; journal_open = λ sound faithful. faithful; is = λ sound w is own. is; told_so = λ sound w is own. refl }
 
   pub runs_on : (old mid new : Running R J) (events : List Event) (event : Event) (told : List Report) (last : Report)
       → Runs g h old mid events told → Happens g h mid new event last → Runs g h old new (events ++ event ∷ []) (told ++ last ∷ [])
@@ -57,10 +80,11 @@ module _ {R J : Type 0} (g : Registries R) (h : Journals J) where
     base = more.base ∙ ran.base;
     stays_open = λ sound faithful. more.stays_open sound (ran.stays_open (more.was sound) faithful);
     journal_open = λ sound faithful. more.journal_open sound (ran.journal_open (more.was sound) faithful);
-    is = λ sound w is. subst (λ v. Is g h new v) (sym (run-more w events event)) (more.is sound (run w events) (ran.is (more.was sound) w is));
-    told_so = λ sound w is. map_push report_of told last
-        ∙ ap (λ rs. rs ++ report_of last ∷ []) (ran.told_so (more.was sound) w is)
-        ∙ ap (λ r. model.reports (message_size old.service) w events ++ r ∷ []) (more.report sound (run w events) (ran.is (more.was sound) w is) ∙ ap (λ b. model.report (message_size b) (run w events) event) ran.base)
+    is = λ sound w is own. is_at g h new (happens (run w events) event) (run w (events ++ event ∷ [])) (run-more w events event)
+        (more.is sound (run w events) (ran.is (more.was sound) w is (own_front old w is events (event ∷ []) own)) (own_back old w is events (event ∷ []) own).0);
+    told_so = λ sound w is own. map_push report_of told last
+        ∙ ap (λ rs. rs ++ report_of last ∷ []) (ran.told_so (more.was sound) w is (own_front old w is events (event ∷ []) own))
+        ∙ ap (λ r. model.reports (message_size old.service) w events ++ r ∷ []) (more.report sound (run w events) (ran.is (more.was sound) w is (own_front old w is events (event ∷ []) own)) ∙ ap (λ b. model.report (message_size b) (run w events) event) ran.base)
         ∙ sym (reports-more (message_size old.service) w events event);
   }
 
@@ -73,7 +97,7 @@ module _ {R J : Type 0} (g : Registries R) (h : Journals J) where
     was = λ sound. (subst g.is_honest at sound.registry, was (stays (now sound)));
     stays_open = λ faithful. subst g.is_faithful (sym at) faithful;
     journal_open = λ sound. subst (λ s. h.is_faithful (journal_in s)) (sym e) (stays (now sound));
-    is = λ sound faithful rows kept. is_empty g h r base (record {
+    is = λ sound faithful rows kept ours. is_empty g h ours r base (record {
       rows = λ _. ap g.rows at ∙ rows;
       found = λ found holds. settled found faithful (subst (λ p. g.may_hold p found) at holds) ∙ rows;
       table = tt;
@@ -104,8 +128,8 @@ module _ {R J : Type 0} (g : Registries R) (h : Journals J) where
     base = runs.base ∙ at;
     opened = runs.stays_open sound (starts.stays_open faithful);
     journal_open = runs.journal_open sound (starts.journal_open (runs.was sound));
-    is = runs.is sound empty (starts.is (runs.was sound) faithful rows kept);
-    told_so = runs.told_so sound empty (starts.is (runs.was sound) faithful rows kept) ∙ ap (λ b. model.reports (message_size b) empty events) at;
+    is = is_of_ours g h ran (run empty events) (runs.is sound empty (starts.is (runs.was sound) faithful rows kept all_names) (all_own events));
+    told_so = runs.told_so sound empty (starts.is (runs.was sound) faithful rows kept all_names) (all_own events) ∙ ap (λ b. model.reports (message_size b) empty events) at;
     safe = λ early late _. always_safe early;
     onward = λ early middle late _. always_onward early middle;
     headline = λ early middle late _. headline_holds early middle;

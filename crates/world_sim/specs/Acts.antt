@@ -1,7 +1,5 @@
 -- Others who write at the provider of the running world: administrators, other tools, other connectors.
 use Rattle.std.specs.Prelude.{◌≡◌, ◌⊎◌, ℕ, List, Option, Some, None, false}
-use Rattle.std.specs.List.{AllByRecursion}
-use Rattle.scim_key.specs.Bases.{IsBase}
 use Rattle.scim_key.specs.Identifiers.{id_text}
 use Rattle.scim_key.specs.Stores.{HasRisen}
 use Rattle.scim_message.specs.Messages.{answer_status}
@@ -16,37 +14,23 @@ use Rattle.provider_core.specs.Stories.{step}
 use Rattle.provider_core.specs.declared.registry.Registry.{Ghosts as Registries}
 use Rattle.journal_core.specs.declared.journals.Journal.{Ghosts as Journals}
 use Rattle.world_model.specs.Invariant.{Names}
-use Rattle.world_model.specs.Others.{Act, Theirs, acts, run_among, KeepsApart, LeavesAlone}
-use Rattle.world_model.specs.Room.{IsLawfulAct}
-use Rattle.world_model.specs.World.{World, empty}
+use Rattle.world_model.specs.Others.{Theirs, acts, LeavesAlone}
+use Rattle.world_model.specs.World.{World}
 use Rattle.world_sim.specs.GoingOn.{unknown_rows}
-use Rattle.world_sim.specs.Running.{HoldsOneOf, IsSound, Mirrors}
+use Rattle.world_sim.specs.Running.{HoldsOneOf, IsAmong, IsSound, Mirrors}
 use Rattle.world_sim.specs.declared.reports.WorldFault.{WorldFault}
 use Rattle.world_sim.specs.declared.reports.WorldFault.TheVariants.{Memory, Store}
 use Rattle.world_sim.specs.declared.worlds.World.{World as Running}
 
--- Acts lead to the world: our events, and requests of others who leave our records alone
-pub record IsReachedAmong (ours : Names) (w : World) : Type 0 where
-  pub acts : List Act
-  pub apart : KeepsApart ours acts
-  pub lawful : AllByRecursion IsLawfulAct acts
-  pub is : run_among empty acts ≡ w
-
--- The running world is this world among others, at a valid base
-pub record IsAmong {R J : Type 0} (g : Registries R) (h : Journals J) (ours : Names) (r : Running R J) (w : World)
-    : Type 0 where
-  pub mirrors : Mirrors g h r w
-  pub base : IsBase r.service
-  pub reached : IsReachedAmong ours w
-
--- Somebody else's request was answered with this status: the world after that act runs now. If others leave our
--- records alone, it is a world among others as before
+-- Somebody else's request was answered with this status: the world after that act runs now, and the registry was open
+-- before it. If others leave our records alone, it is a world among others as before
 pub record Answers {R J : Type 0} (g : Registries R) (h : Journals J) (old new : Running R J) (request : Request)
     (status : ℕ) : Type 0 where
   pub was : IsSound g h new → IsSound g h old
   pub stays_open : IsSound g h new → g.is_faithful old.provider → g.is_faithful new.provider
   pub is : IsSound g h new → (w : World) → Mirrors g h old w → Mirrors g h new (acts w (Theirs request))
-  pub among : IsSound g h new → (ours : Names) (w : World) → LeavesAlone ours request → IsAmong g h ours old w
+  pub was_open : IsSound g h new → g.is_faithful old.provider
+  pub among : IsSound g h new → {ours : Names} (w : World) → IsAmong g h ours old w → LeavesAlone ours request
       → IsAmong g h ours new (acts w (Theirs request))
   pub answer : IsSound g h new → (w : World) → Mirrors g h old w
       → status ≡ answer_status (step w.entries request).answer

@@ -1,8 +1,9 @@
 -- An event goes on as before, whatever a fault left of a store that it doesn't read.
 use Rattle.provider_core.specs.declared.registry.Registry.{Ghosts as Registries}
 use Rattle.journal_core.specs.declared.journals.Journal.{Ghosts as Journals}
+use Rattle.world_model.specs.Invariant.{Names}
 use Rattle.world_model.specs.World.{World, Event}
-use Rattle.world_sim.specs.Running.{Fails, Happens, Is, ReadsJournal, ReadsRegistry, if_restart}
+use Rattle.world_sim.specs.Running.{Fails, Happens, IsAmong, ReadsJournal, ReadsRegistry, if_restart}
 use Rattle.world_sim.specs.declared.reports.Report.{Report}
 use Rattle.world_sim.specs.declared.reports.WorldFault.{WorldFault}
 use Rattle.world_sim.specs.declared.worlds.World.{World as Running}
@@ -21,12 +22,12 @@ unknown_entries h =
     record h { is_faithful = λ journal. ⊥; is_honest = λ journal. Unit {0}; may_hold = λ journal found. ⊥ }
 
 -- the running world is this world, but for what its registry holds
-abbrev pub IsButForRows : {R J : Type 0} → Registries R → Journals J → Running R J → World → Type 0
-IsButForRows g h r w = Is (unknown_rows g) h r w
+abbrev pub IsButForRows : {R J : Type 0} → Registries R → Journals J → Names → Running R J → World → Type 0
+IsButForRows g h ours r w = IsAmong (unknown_rows g) h ours r w
 
 -- the running world is this world, but for what its journal holds
-abbrev pub IsButForEntries : {R J : Type 0} → Registries R → Journals J → Running R J → World → Type 0
-IsButForEntries g h r w = Is g (unknown_entries h) r w
+abbrev pub IsButForEntries : {R J : Type 0} → Registries R → Journals J → Names → Running R J → World → Type 0
+IsButForEntries g h ours r w = IsAmong g (unknown_entries h) ours r w
 
 -- ---- what an event does
 
@@ -43,6 +44,7 @@ pub record FailsOn {R J : Type 0} (g : Registries R) (h : Journals J) (old new :
     (event : Event) (fault : WorldFault) : Type 0 where
   pub but_for_rows : (ReadsRegistry old event → ⊥) → Fails (unknown_rows g) h old new event fault
   pub but_for_entries : (ReadsJournal event → ⊥) → Fails g (unknown_entries h) old new event fault
-  pub rows_unknown : ReadsRegistry old event → (w : World) → IsButForRows g h old w → IsButForRows g h new w
-  pub entries_unknown : (ReadsRegistry old event → ⊥) → (w : World) → IsButForEntries g h old w
-      → IsButForEntries g h new (if_restart w event)
+  pub rows_unknown : ReadsRegistry old event → {ours : Names} (w : World) → IsButForRows g h ours old w
+      → IsButForRows g h ours new w
+  pub entries_unknown : (ReadsRegistry old event → ⊥) → {ours : Names} (w : World) → IsButForEntries g h ours old w
+      → IsButForEntries g h ours new (if_restart w event)

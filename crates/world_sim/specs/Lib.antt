@@ -12,5 +12,6 @@ pub mod Settling
 pub mod Schedules
 pub mod Views
 pub mod Lines
+pub mod Amid
 pub mod Printing
 pub mod Random

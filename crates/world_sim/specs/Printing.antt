@@ -6,13 +6,14 @@ use Rattle.std.specs.Fmt.{decimal}
 use Rattle.std.specs.Io.KnownBytes.{Appends}
 use Rattle.provider_core.specs.declared.registry.Registry.{Ghosts as Registries}
 use Rattle.journal_core.specs.declared.journals.Journal.{Ghosts as Journals}
+use Rattle.world_model.specs.Invariant.{Names}
 use Rattle.world_model.specs.Reports.{reports as model_reports}
 use Rattle.world_model.specs.World.{World, Event, empty, names as world_names, run}
 use Rattle.world_sim.specs.Events.{report_of}
 use Rattle.world_sim.specs.Following.{EndsTelling, RunsTelling}
 use Rattle.world_sim.specs.Lines.{count_text, report_text, view_text}
 use Rattle.world_sim.specs.Messages.{message_size}
-use Rattle.world_sim.specs.Running.{Is, IsSound}
+use Rattle.world_sim.specs.Running.{IsAmong, IsSound}
 use Rattle.world_sim.specs.Settling.{IsSettling, Settles}
 use Rattle.world_sim.specs.Views.{view}
 use Rattle.world_sim.specs.declared.following.TellingFault.{TellingFault}
@@ -72,8 +73,9 @@ SettlesIf g h false old new None = new ≡ old
 pub record ShowsAll {R J : Type 0} (g : Registries R) (h : Journals J) (old new : Running R J) (views : List View)
     : Type 0 where
   pub was : IsSound g h new → IsSound g h old
-  pub is : IsSound g h new → (w : World) → Is g h old w → Is g h new w
-  pub shown : IsSound g h new → (w : World) → Is g h old w → views ≡ map (view w) (world_names w)
+  pub is : IsSound g h new → {ours : Names} (w : World) → IsAmong g h ours old w → IsAmong g h ours new w
+  pub shown : IsSound g h new → {ours : Names} (w : World) → IsAmong g h ours old w
+      → views ≡ map (view w) (world_names w)
 
 -- records were settled if that was asked for, and then shown, each with its line
 pub record Ends {R J : Type 0} (g : Registries R) (h : Journals J) (asked : Bool) (world : Running R J)

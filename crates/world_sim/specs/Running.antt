@@ -1,5 +1,5 @@
 -- When the running world is a world of the model.
-use Rattle.std.specs.Prelude.{◌≡◌, ◌⊎◌, ℕ, suc, Bool, true, false, List, [], ◌∷◌, ◌++◌, length, map, Option, Some, None, Result, Ok, Err}
+use Rattle.std.specs.Prelude.{◌≡◌, ◌⊎◌, ◌↔◌, ℕ, suc, Bool, true, false, List, [], ◌∷◌, ◌++◌, length, map, Option, Some, None, Result, Ok, Err}
 use Rattle.std.specs.FinMap.{keys}
 use Rattle.std.specs.FinMap as fin
 use Rattle.std.specs.List.{AllByRecursion}
@@ -16,9 +16,12 @@ use Rattle.connector_core.specs.Book.{Book, reopened}
 use Rattle.connector_core.specs.Maps.{BookMap, book_of}
 use Rattle.connector_core.specs.State.{AreOf}
 use Rattle.world_model.specs.World.{World, Message, Asked, Answered, Event, Changes, Sends, Delivers, Cuts, Restarts_provider, Restarts_connector, message_at, names as world_names, arrives, happens, empty, run}
-use Rattle.world_model.specs.Reports.{Report, report, reports, arrival_report, sending_report}
+use Rattle.world_model.specs.Reports.{report, reports, arrival_report, sending_report}
 use Rattle.world_model.specs.Safe.{Has, Headline, Onward, Safe, rows as world_rows}
 use Rattle.world_model.specs.Untroubled.{IsLawful}
+use Rattle.world_model.specs.Invariant.{Names, all_names}
+use Rattle.world_model.specs.Others.{Act, KeepsApart, OfOurs, run_among}
+use Rattle.world_model.specs.Room.{IsLawfulAct}
 use Rattle.world_sim.specs.Fitting.{IsFormed}
 use Rattle.world_sim.specs.Messages.{IsMessage, message_text, message_size, messages_of, texts_of}
 use Rattle.world_sim.specs.Events.{report_of}
@@ -85,6 +88,13 @@ pub record IsReached (w : World) : Type 0 where
   pub lawful : AllByRecursion IsLawful events
   pub is : run empty events ≡ w
 
+-- Acts lead to the world: our valid events, and requests of others who leave our records alone
+pub record IsReachedAmong (ours : Names) (w : World) : Type 0 where
+  pub acts : List Act
+  pub apart : KeepsApart ours acts
+  pub lawful : AllByRecursion IsLawfulAct acts
+  pub is : run_among empty acts ≡ w
+
 -- The running world has the parts of this world: its rows, also if the registry is opened again; its book, also if the
 -- journal is opened again, but for what was seen; and its messages, each with the bytes that are formed for it
 pub record Mirrors {R J : Type 0} (g : Registries R) (h : Journals J) (r : Running R J) (w : World) : Type 0 where
@@ -97,30 +107,43 @@ pub record Mirrors {R J : Type 0} (g : Registries R) (h : Journals J) (r : Runni
   pub texts : texts_of r.sent.items ≡ map (message_text r.service) w.messages
   pub formed : (message : Message) → Has w.messages message → IsFormed r.service message
 
--- The running world is this world, at a valid base
+-- The running world is this world, at a valid base, and our events alone led to it
 pub record Is {R J : Type 0} (g : Registries R) (h : Journals J) (r : Running R J) (w : World) : Type 0 where
   pub mirrors : Mirrors g h r w
   pub base : IsBase r.service
   pub reached : IsReached w
 
+-- The running world is this world among others, at a valid base
+pub record IsAmong {R J : Type 0} (g : Registries R) (h : Journals J) (ours : Names) (r : Running R J) (w : World)
+    : Type 0 where
+  pub mirrors : Mirrors g h r w
+  pub base : IsBase r.service
+  pub reached : IsReachedAmong ours w
+
+-- Without others: each record is ours, and then it is the same whether others may act or not
+abbrev pub IsAlone : {R J : Type 0} → Registries R → Journals J → Type 0
+IsAlone {R} {J} g h = (r : Running R J) (w : World) → Is g h r w ↔ IsAmong g h all_names r w
+
 -- ---- what an event does
 
 -- What was done, with its report. If the stores are sound after it, they were sound before, an open store stays open,
 -- and `after` holds for each world that ran before
-pub record Makes {R J : Type 0} (g : Registries R) (h : Journals J) (old new : Running R J)
-    (after : World → Type 0) (says : World → Report) (told : ReportOf) : Type 0 where
+pub record Makes {R J S T : Type 0} (g : Registries R) (h : Journals J) (old new : Running R J)
+    (after : Names → World → Type 0) (says : World → S) (meaning : T → S) (told : T) : Type 0 where
   pub was : IsSound g h new → IsSound g h old
   pub base : new.service ≡ old.service
   pub stays_open : IsSound g h new → g.is_faithful old.provider → g.is_faithful new.provider
   pub journal_open : IsSound g h new → h.is_faithful (journal_in old.connector)
       → h.is_faithful (journal_in new.connector)
-  pub is : IsSound g h new → (w : World) → Is g h old w → after w
-  pub report : IsSound g h new → (w : World) → Is g h old w → report_of told ≡ says w
+  pub is : IsSound g h new → {ours : Names} (w : World) → IsAmong g h ours old w → after ours w
+  pub report : IsSound g h new → {ours : Names} (w : World) → IsAmong g h ours old w → meaning told ≡ says w
 
--- One event: for each world that ran before it, the world after the event runs now
+-- One event: for each world that ran before it, the world after the event runs now. A row that is offered is one of our
+-- records
 abbrev pub Happens : {R J : Type 0} → Registries R → Journals J → (old new : Running R J) → Event → ReportOf → Type 0
 Happens g h old new event told =
-    Makes g h old new (λ w. Is g h new (happens w event)) (λ w. report (message_size old.service) w event) told
+    Makes g h old new (λ ours w. OfOurs ours event → IsAmong g h ours new (happens w event))
+    (λ w. report (message_size old.service) w event) report_of told
 
 -- a request was sent: it is the last message, in its bytes, and nothing else changed
 pub record Posts {R J : Type 0} (old new : Running R J) (request : Request) (told : ReportOf) : Type 0 where
@@ -136,7 +159,8 @@ pub record Posts {R J : Type 0} (old new : Running R J) (request : Request) (tol
 -- a message arrives: the running world has the parts of the world after that
 abbrev pub Arrives : {R J : Type 0} → Registries R → Journals J → (old new : Running R J) → Message → ReportOf → Type 0
 Arrives g h old new message told =
-    Makes g h old new (λ w. Mirrors g h new (arrives w message)) (λ w. arrival_report w message) told
+    Makes g h old new (λ ours w. Mirrors g h new (arrives w message)) (λ w. arrival_report w message) report_of
+    told
 
 -- ---- faults
 
@@ -209,8 +233,10 @@ pub record Fails {R J : Type 0} (g : Registries R) (h : Journals J) (old new : R
   pub was : IsSound g h new → IsSound g h old
   pub base : new.service ≡ old.service
   pub sent : new.sent.items ≡ old.sent.items
-  pub is : IsSound g h new → IsKnown g h old new event → (w : World) → Is g h old w → Is g h new (if_restart w event)
-  pub leaves : IsSound g h new → (w : World) → Is g h old w → HoldsOneOf g h new w (happens w event)
+  pub is : IsSound g h new → IsKnown g h old new event → {ours : Names} (w : World) → IsAmong g h ours old w
+      → IsAmong g h ours new (if_restart w event)
+  pub leaves : IsSound g h new → {ours : Names} (w : World) → IsAmong g h ours old w
+      → HoldsOneOf g h new w (happens w event)
   pub excused : IsExcused g h old new event fault
 
 -- a message didn't arrive, whatever its number
@@ -219,8 +245,10 @@ pub record FailsToArrive {R J : Type 0} (g : Registries R) (h : Journals J) (old
   pub was : IsSound g h new → IsSound g h old
   pub base : new.service ≡ old.service
   pub sent : new.sent.items ≡ old.sent.items
-  pub is : IsSound g h new → IsOpenTo g h new (Some message) → (w : World) → Is g h old w → Is g h new w
-  pub leaves : IsSound g h new → (w : World) → Is g h old w → HoldsOneOf g h new w (arrives w message)
+  pub is : IsSound g h new → IsOpenTo g h new (Some message) → {ours : Names} (w : World) → IsAmong g h ours old w
+      → IsAmong g h ours new w
+  pub leaves : IsSound g h new → {ours : Names} (w : World) → IsAmong g h ours old w
+      → HoldsOneOf g h new w (arrives w message)
   pub excused : (number : ℕ) → IsExcused g h old new (Delivers number) fault
 
 -- what the connector knows, including what it has seen, while its side is open
@@ -277,9 +305,9 @@ pub record Starts {R J : Type 0} (g : Registries R) (h : Journals J) (registry :
   pub stays_open : g.is_faithful registry → g.is_faithful r.provider
   pub journal_open : IsSound g h r → h.is_faithful (journal_in r.connector)
   pub is : IsSound g h r → g.is_faithful registry → g.rows registry ≡ [] → h.entries journal ≡ fin.empty
-      → Is g h r empty
+      → (ours : Names) → IsAmong g h ours r empty
 
--- events one after the other, with their reports
+-- events one after the other, with their reports. Each row that is offered is one of our records
 pub record Runs {R J : Type 0} (g : Registries R) (h : Journals J) (old new : Running R J)
     (events : List Event) (told : List ReportOf) : Type 0 where
   pub was : IsSound g h new → IsSound g h old
@@ -287,8 +315,10 @@ pub record Runs {R J : Type 0} (g : Registries R) (h : Journals J) (old new : Ru
   pub stays_open : IsSound g h new → g.is_faithful old.provider → g.is_faithful new.provider
   pub journal_open : IsSound g h new → h.is_faithful (journal_in old.connector)
       → h.is_faithful (journal_in new.connector)
-  pub is : IsSound g h new → (w : World) → Is g h old w → Is g h new (run w events)
-  pub told_so : IsSound g h new → (w : World) → Is g h old w
+  pub is : IsSound g h new → {ours : Names} (w : World) → IsAmong g h ours old w → AllByRecursion (OfOurs ours) events
+      → IsAmong g h ours new (run w events)
+  pub told_so : IsSound g h new → {ours : Names} (w : World) → IsAmong g h ours old w
+      → AllByRecursion (OfOurs ours) events
       → map report_of told ≡ reports (message_size old.service) w events
 
 -- events up to one that fails, from a world that starts with connector and provider open

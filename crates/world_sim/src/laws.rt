@@ -1,6 +1,11 @@
 //! Laws of the messages of all runs, and of all answers, with nothing to run.
+ghost use Rattle.world_sim.specs.Amid.{RunsAlone};
 ghost use Rattle.world_sim.specs.Answering.{AnswersAreReadBack, AnswersFit};
 ghost use Rattle.world_sim.specs.Fitting.{MessagesAreRead, MessagesKeepLimits};
+ghost use Rattle.world_sim.specs.Running.{IsAlone};
+
+use journal_core::Journal;
+use provider_core::Registry;
 
 /// Every message that was ever sent in a run is within the limits of heads and bodies, and its bytes are
 /// read as exactly that message: a request by the server, an answer by the client.
@@ -15,4 +20,11 @@ pub fn messages_are_read()
 pub fn answers_fit()
     ensures fit { AnswersFit }
     ensures read { AnswersAreReadBack }
+{}
+
+/// Without others. If every record is ours, a world among others is a world that our events alone led to
+/// (`worlds`). What `run_among` promises of our events alone is what `run` promises of them (`runs`).
+pub fn without_others<R: Registry, J: Journal>()
+    ensures worlds { IsAlone R.Registry J.Journal }
+    ensures runs { RunsAlone R.Registry J.Journal }
 {}

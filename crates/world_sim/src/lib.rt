@@ -1,6 +1,7 @@
 //! The world that runs: a provider, a connector, and the bytes of every message between them.
 #![tactic(auto)]
 
+mod acting;
 mod events;
 mod following;
 mod laws;
@@ -17,9 +18,10 @@ mod sides;
 mod views;
 mod worlds;
 
+pub use acting::{Act, ActReport, run_among};
 pub use events::Event;
 pub use following::{Follow, TellingFault, run_telling};
-pub use laws::{answers_fit, messages_are_read};
+pub use laws::{answers_fit, messages_are_read, without_others};
 pub use printing::{Printed, ReportLines, print_run};
 pub use random::random_schedule;
 pub use reports::{Report, WorldFault};

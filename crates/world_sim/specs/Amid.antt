@@ -1,0 +1,189 @@
+-- Runs among others: our events, and what others write at the same provider meanwhile.
+use Rattle.std.specs.Prelude.{◌≡◌, ◌⊎◌, ℕ, true, false, List, [], ◌∷◌, ◌++◌, map, codes}
+use Rattle.std.specs.FinMap as fin
+use Rattle.std.specs.Fmt.{decimal}
+use Rattle.std.specs.List.{AllByRecursion}
+use Rattle.scim_key.specs.Stores.{HasRisen}
+use Rattle.scim_message.specs.Messages.{answer_status}
+use Rattle.scim_message.specs.declared.messages.Request.{Request}
+use Rattle.scim_resource.specs.Contents.{content_name}
+use Rattle.provider_core.specs.Stories.{step}
+use Rattle.provider_core.specs.declared.registry.Registry.{Ghosts as Registries}
+use Rattle.journal_core.specs.declared.journals.Journal.{Ghosts as Journals}
+use Rattle.world_model.specs.Invariant.{Names}
+use Rattle.world_model.specs.Others.{Act, Ours, Theirs, HeadlineAmong, LeavesAlone, OfOurs, SafeAmong, acts, run_among}
+use Rattle.world_model.specs.Reports.{Report, report}
+use Rattle.world_model.specs.Safe.{Onward, rows as world_rows}
+use Rattle.world_model.specs.World.{World, Message, Event, empty}
+use Rattle.world_sim.specs.Acts.{FailsToAnswer, write_of}
+use Rattle.world_sim.specs.Events.{event_of, events_of, report_of}
+use Rattle.world_sim.specs.Lines.{report_text}
+use Rattle.world_sim.specs.Messages.{message_size}
+use Rattle.world_sim.specs.Running.{Apart, Fails, IsAmong, IsSound, Keeps, Makes, RunsFromEmpty, Starts, journal_in, opens_of}
+use Rattle.world_sim.specs.declared.acting.Act.{Act as ActOf}
+use Rattle.world_sim.specs.declared.acting.Act.TheVariants as deeds
+use Rattle.world_sim.specs.declared.acting.ActReport.{ActReport as ActReportOf}
+use Rattle.world_sim.specs.declared.acting.ActReport.TheVariants as told
+use Rattle.world_sim.specs.declared.events.Event.{Event as EventOf}
+use Rattle.world_sim.specs.declared.reports.Report.{Report as ReportOf}
+use Rattle.world_sim.specs.declared.reports.WorldFault.{WorldFault}
+use Rattle.world_sim.specs.declared.reports.WorldFault.TheVariants.{Memory}
+use Rattle.world_sim.specs.declared.worlds.World.{World as Running}
+
+-- ---- acts
+
+-- the model's act, in this world: what others write is a creation, or the replacement of what has the name
+abbrev pub act_of : World → ActOf → Act
+act_of w (deeds.Ours event) = Ours (event_of event)
+act_of w (deeds.Asks request) = Theirs request
+act_of w (deeds.Writes content) = Theirs (write_of (world_rows w) content)
+
+-- the model's acts, one after the other: each in the world that it comes to
+abbrev pub acts_of : World → List ActOf → List Act
+acts_of w [] = []
+acts_of w (act ∷ later) = act_of w act ∷ acts_of (acts w (act_of w act)) later
+
+-- our source offers rows of our records alone, and others leave our records alone
+abbrev pub IsApartFrom : Names → ActOf → Type 0
+IsApartFrom ours (deeds.Ours event) = OfOurs ours (event_of event)
+IsApartFrom ours (deeds.Asks request) = LeavesAlone ours request
+IsApartFrom ours (deeds.Writes content) = ours (content_name content) ≡ false
+
+-- ---- reports
+
+-- the report of an event of ours, or the status of the answer to somebody else
+pub data ActReport : Type 0 where
+  Of_ours : (report : Report) → ActReport
+  Of_others : (status : ℕ) → ActReport
+
+abbrev pub act_report_of : ActReportOf → ActReport
+act_report_of (told.Ours report) = Of_ours (report_of report)
+act_report_of (told.Others status) = Of_others status
+
+abbrev pub others_report : World → Request → ActReport
+others_report w request = Of_others (answer_status (step w.entries request).answer)
+
+-- The report of an act
+abbrev pub act_report : (size : Message → ℕ) → World → ActOf → ActReport
+act_report size w (deeds.Ours event) = Of_ours (report size w (event_of event))
+act_report size w (deeds.Asks request) = others_report w request
+act_report size w (deeds.Writes content) = others_report w (write_of (world_rows w) content)
+
+abbrev pub act_reports : (size : Message → ℕ) → World → List ActOf → List ActReport
+act_reports size w [] = []
+act_reports size w (act ∷ later) = act_report size w act ∷ act_reports size (acts w (act_of w act)) later
+
+-- the printed report
+abbrev pub act_text : ActReportOf → List ℕ
+act_text (told.Ours report) = report_text report
+act_text (told.Others status) = codes "other " ++ decimal status
+
+-- ---- one act
+
+-- One act was done: for each world that ran before it, the world after the act runs now, if our source offers rows of
+-- our records alone and others leave our records alone
+abbrev pub Does : {R J : Type 0} → Registries R → Journals J → (old new : Running R J) → ActOf → ActReportOf → Type 0
+Does g h old new act said =
+    Makes g h old new (λ ours w. IsApartFrom ours act → IsAmong g h ours new (acts w (act_of w act)))
+    (λ w. act_report (message_size old.service) w act) act_report_of said
+
+-- an event of ours failed
+pub record FailsOurs {R J : Type 0} (g : Registries R) (h : Journals J) (old new : Running R J) (event : Event)
+    (fault : WorldFault) : Type 0 where
+  pub fails : Fails g h old new event fault
+  pub keeps : Keeps old new event
+  pub apart : Apart old new event
+
+-- what others asked wasn't answered, and the connector and our messages are unchanged
+pub record FailsTheirs {R J : Type 0} (g : Registries R) (h : Journals J) (old new : Running R J) (request : Request)
+    (fault : WorldFault) : Type 0 where
+  pub fails : FailsToAnswer g h old new request fault
+  pub connector : new.connector ≡ old.connector
+  pub sent : new.sent ≡ old.sent
+
+-- One act failed
+abbrev pub FailsToDo : {R J : Type 0} → Registries R → Journals J → (old new : Running R J) → ActOf → WorldFault
+    → Type 0
+FailsToDo g h old new (deeds.Ours event) fault = FailsOurs g h old new (event_of event) fault
+FailsToDo g h old new (deeds.Asks request) fault = FailsTheirs g h old new request fault
+FailsToDo g h old new (deeds.Writes content) fault =
+    FailsTheirs g h old new (write_of (g.rows old.provider) content) fault
+
+-- an act was done, and its report is the last of those that are kept
+pub record IsKept {R J : Type 0} (g : Registries R) (h : Journals J) (old new : Running R J) (act : ActOf)
+    (before after : List ActReportOf) : Type 0 where
+  pub report : ActReportOf
+  pub does : Does g h old new act report
+  pub added : after ≡ before ++ report ∷ []
+
+-- ---- runs
+
+-- acts one after the other, with their reports
+pub record RunsAmong {R J : Type 0} (g : Registries R) (h : Journals J) (old new : Running R J)
+    (all : List ActOf) (said : List ActReportOf) : Type 0 where
+  pub was : IsSound g h new → IsSound g h old
+  pub base : new.service ≡ old.service
+  pub stays_open : IsSound g h new → g.is_faithful old.provider → g.is_faithful new.provider
+  pub journal_open : IsSound g h new → h.is_faithful (journal_in old.connector)
+      → h.is_faithful (journal_in new.connector)
+  pub is : IsSound g h new → {ours : Names} (w : World) → IsAmong g h ours old w
+      → AllByRecursion (IsApartFrom ours) all → IsAmong g h ours new (run_among w (acts_of w all))
+  pub told_so : IsSound g h new → {ours : Names} (w : World) → IsAmong g h ours old w
+      → AllByRecursion (IsApartFrom ours) all
+      → map act_report_of said ≡ act_reports (message_size old.service) w all
+
+-- acts up to one that fails, from a world that starts with connector and provider open
+pub record FailsAtAct {R J : Type 0} (g : Registries R) (h : Journals J) (registry : R) (journal : J)
+    (base : List ℕ) (all : List ActOf) (fault : WorldFault) : Type 0 where
+  pub first : Running R J
+  pub last : Running R J
+  pub left : Running R J
+  pub early : List ActOf
+  pub act : ActOf
+  pub late : List ActOf
+  pub said : List ActReportOf
+  pub split : all ≡ early ++ act ∷ late
+  pub base_is : first.service ≡ base
+  pub opens : opens_of first ≡ (true, true)
+  pub starts : Starts g h registry journal first
+  pub runs : RunsAmong g h first last early said
+  pub fails : FailsToDo g h last left act fault
+
+-- Why a run failed: a fault of the journal's store was counted at the start, or an act failed, or memory ran out
+abbrev pub EndsRunAmong : {R J : Type 0} → Registries R → Journals J → R → J → (base : List ℕ) → List ActOf
+    → WorldFault → Type 0
+EndsRunAmong {R} {J} g h registry journal base all fault =
+    (fault ≡ Memory) ⊎ (((left : J) × HasRisen (h.faults journal) (h.faults left))
+    ⊎ FailsAtAct g h registry journal base all fault)
+
+-- What ran is the model's run of the acts: its rows, its book, its messages with their bytes, and its reports. After
+-- each act it was safe for our records, and from each moment to each later one nothing was lost and the headline held
+-- for our records
+pub record IsRunAmong {R J : Type 0} (g : Registries R) (h : Journals J) (ours : Names) (at : List ℕ)
+    (all : List ActOf) (ran : Running R J) (said : List ActReportOf) : Type 0 where
+  pub base : ran.service ≡ at
+  pub opened : g.is_faithful ran.provider
+  pub journal_open : h.is_faithful (journal_in ran.connector)
+  pub is : IsAmong g h ours ran (run_among empty (acts_of empty all))
+  pub told_so : map act_report_of said ≡ act_reports (message_size at) empty all
+  pub safe : (early late : List ActOf) → early ++ late ≡ all → SafeAmong ours (run_among empty (acts_of empty early))
+  pub onward : (early middle late : List ActOf) → (early ++ middle) ++ late ≡ all
+      → Onward (run_among empty (acts_of empty early)) (run_among empty (acts_of empty (early ++ middle)))
+  pub headline : (early middle late : List ActOf) → (early ++ middle) ++ late ≡ all
+      → HeadlineAmong ours (run_among empty (acts_of empty early))
+      (run_among empty (acts_of empty (early ++ middle)))
+
+-- the same over empty stores, if the provider's is open and both are sound in the end, and if others leave our records
+-- alone, whichever these are
+abbrev pub RunsAmongFromEmpty : {R J : Type 0} → Registries R → Journals J → R → J → (base : List ℕ)
+    → List ActOf → (ran : Running R J) → List ActReportOf → Type 0
+RunsAmongFromEmpty g h registry journal base all ran said =
+    g.is_faithful registry → g.rows registry ≡ [] → h.entries journal ≡ fin.empty → IsSound g h ran
+    → (ours : Names) → AllByRecursion (IsApartFrom ours) all → IsRunAmong g h ours base all ran said
+
+-- Without others: a run of our events among others is a run of our events
+abbrev pub RunsAlone : {R J : Type 0} → Registries R → Journals J → Type 0
+RunsAlone {R} {J} g h = (registry : R) (journal : J) (base : List ℕ) (events : List EventOf) (ran : Running R J)
+    (said : List ReportOf)
+    → RunsAmongFromEmpty g h registry journal base (map deeds.Ours events) ran (map told.Ours said)
+    → RunsFromEmpty g h registry journal base (events_of events) ran said
