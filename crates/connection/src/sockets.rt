@@ -2,6 +2,7 @@
 ghost use Rattle.std.specs.Prelude.{◌≡◌, ◌-◌, [], IfOk};
 ghost use Rattle.connection.specs.Reporting.{with_more};
 
+use crate::accepting::makes_room;
 use crate::ahead::AheadReader;
 use crate::deadline::Deadline;
 use crate::ending::Ending;
@@ -9,6 +10,7 @@ use crate::endings::Endings;
 use crate::faults::{FaultCount, may_report};
 use crate::held::Held;
 use crate::late::LateWriter;
+use crate::limits::{first_sleep, longest_sleep};
 use crate::listening::Listen;
 use crate::prompt::PromptStream;
 use crate::serving::{ConnectionFault, tell};
@@ -20,13 +22,8 @@ use std::net::{OpenListener, OpenStream};
 use std::time::{Clock, Duration, Instant};
 use std::{io, thread};
 
-/// How often it is looked for something to do before the first pause.
+/// How often it is looked for something to do before the first sleep.
 const LOOKS_AT_ONCE: u32 = 50;
-
-/// The first pause and the longest one, in microseconds. Each is longer than the one before by the first.
-const FIRST_PAUSE: u64 = 20;
-
-const LONGEST_PAUSE: u64 = 4_000;
 
 /// The connections of a listening socket. Each has this time in all, from when it is accepted. A connection
 /// is given out when its request is whole, is refused by its form, has ended or failed, or is out of time.
@@ -134,10 +131,10 @@ where
         }
     }
 
-    /// The system gives no connection, because it has no descriptor left, say. Then the oldest connection makes
-    /// room. If none can, it is tried again after a pause; the fault is reported once a second at most.
+    /// The system gives no connection. If it has no descriptor or no memory left, the oldest connection makes room. If
+    /// none can, or another error came, it is tried again after a pause; the fault is reported once a second at most.
     fn unaccepted(&mut self, error: io::Error, now: Instant) -> io::Result<Option<L::Stream>> {
-        if error.kind() != ErrorKind::ConnectionAborted && self.waiting.give_up_oldest(now) {
+        if makes_room(error.raw_os_error()) && self.waiting.give_up_oldest(now) {
             return Err(error);
         }
         if !may_report(self.reported, now) {
@@ -207,8 +204,8 @@ fn opened<'a, S: Read + Write + OpenStream + Drop, C: Clock>(
         stream,
         deadline,
         accepted: _,
+        next: _,
         received,
-        pace: _,
     } = held;
     let stream = SharedStream::new(alloc, stream)?;
     let reader = PromptStream::new(stream.try_clone()?, clock, deadline);
@@ -260,11 +257,11 @@ where
 
 /// Lets others run. After some looks without anything to do, it sleeps: first for a moment, then longer.
 fn pause(clock: &impl Clock, idle: u32) {
-    match u64::from(idle.saturating_sub(LOOKS_AT_ONCE)) {
+    match idle.saturating_sub(LOOKS_AT_ONCE) {
         0 => thread::yield_now(),
-        pauses => {
-            let length = pauses.saturating_mul(FIRST_PAUSE).min(LONGEST_PAUSE);
-            thread::sleep(clock, Duration::from_micros(length));
-        }
+        pauses => thread::sleep(
+            clock,
+            first_sleep().saturating_mul(pauses).min(longest_sleep()),
+        ),
     }
 }
