@@ -40,7 +40,8 @@ module _ {S : Type 0} (remaining : S → Option (List ℕ)) (most : ℕ) where
   -- a call left the connection at this place as it was: it is at that place now, and its turn in the round comes
   abbrev pub IsLeft : (place place_then : ℕ) → (old new : Waiting S) → Type 0
   IsLeft place place_then old new = (new.next ≤ place_then) × (place_then < round_end new)
-      × ((d : Held S) → slice_index_or new.connections.items place_then d ≡ slice_index_or old.connections.items place d)
+      × ((d : Held S) →
+      slice_index_or new.connections.items place_then d ≡ slice_index_or old.connections.items place d)
 
   -- one of the calls met the connection at this place, and those before it left it as it was
   abbrev pub IsMetIn : (place : ℕ) → (old : Waiting S) → (later : List (Waiting S)) → Type 0
@@ -48,8 +49,8 @@ module _ {S : Type 0} (remaining : S → Option (List ℕ)) (most : ℕ) where
   IsMetIn place old (new ∷ later) =
       IsMet place old new ⊎ ((place_then : ℕ) × IsLeft place place_then old new × IsMetIn place_then new later)
 
-  -- Once a round is over, the next call begins another. From that call up to the end of that round, each connection that
-  -- is held when it begins is met
+  -- Once a round is over, the next call begins another. From that call up to the end of that round, each connection
+  -- that is held when it begins is met
   abbrev pub MeetsEverybody : Type 0
   MeetsEverybody = (old new : Waiting S) (now : Instant) (taken : Option (Held S)) (later : List (Waiting S))
       → IsRoundOver old → Takes remaining now most old new taken → EndsRound new later

@@ -11,8 +11,11 @@ pub(crate) const MOST_HELD: usize = 4_096;
 /// How many bytes of memory the requests of all of them take before the oldest is given up.
 pub(crate) const MOST_MEMORY: usize = 16_777_216;
 
-/// The most connections that are looked at between two that are accepted.
+/// The most connections that one call looks at.
 pub(crate) const MOST_LOOKS: usize = 16;
+
+/// The most connections that are accepted in a row, if their requests aren't whole.
+pub(crate) const MOST_IN_A_ROW: u32 = 16;
 
 /// The most connections that were served and aren't closed yet.
 pub(crate) const MOST_ENDINGS: usize = 256;
@@ -53,6 +56,11 @@ pub(crate) fn report_pause() -> Duration
     ensures { as_nanos result ≡ report_pause }
 {
     Duration::from_secs(1)
+}
+
+/// The shortest time between two counts of the memory of those that wait, if nobody has to leave.
+pub(crate) fn count_pause() -> Duration {
+    Duration::from_millis(1)
 }
 
 /// The longest time between two looks at all endings while connections wait.

@@ -143,7 +143,8 @@ impl<S: Read + Drop> Waiting<S> {
     fn take_from_round(&mut self, alloc: Global, now: Instant) -> Option<Held<S>>
         requires begun { self.old.next ≤ self.old.end }
         requires end { self.old.end ≤ deque_len self.old.connections }
-        ensures takes { TakesFirst S.remaining now MOST_LOOKS self.old.next self.old.end self.new.next
+        ensures takes { TakesFirst S.remaining now MOST_LOOKS
+            self.old.next self.old.end self.new.next
             self.old.connections.items self.new.connections.items result }
         ensures end { self.new.end + count_of result ≡ self.old.end }
     {
@@ -170,7 +171,8 @@ impl<S: Read + Drop> Waiting<S> {
     /// Whether it is time to look at the connection at a place.
     fn is_time_at(&self, place: usize, now: Instant) -> bool
         requires { place < deque_len self.now.connections }
-        ensures { (d : _) → result ≡ is_time now (slice_index_or self.now.connections.items place d) }
+        ensures { (d : _) → result
+            ≡ is_time now (slice_index_or self.now.connections.items place d) }
     {
         self.connections[place].is_due(now)
     }
