@@ -146,9 +146,12 @@ class SlowClientTest(ProgramTest):
                 contextlib.ExitStack() as silent:
             streams = [silent.enter_context(stream) for stream in connect_all(provider, MOST_HELD)]
             time.sleep(10 * GRANTED)
+            # as many as have a place, and then one more
+            self.assertFalse(any(map(is_closed, streams)))
             silent.enter_context(provider.connect())
             streams[0].settimeout(PROMPTLY)
             self.assertEqual(streams[0].recv(1), b"")
+            self.assertFalse(any(map(is_closed, streams[1:])))
             # one leaves, so that the next needs nobody's place, even if its request comes a while after it
             streams[1].close()
             time.sleep(10 * GRANTED)

@@ -2,6 +2,7 @@ pub mod ServedLemmas
 pub mod ReplyLemmas
 mod RequestLemmas
 mod HoldingLemmas
+mod RoundLemmas
 mod StreamLemmas
 mod TurnLemmas
 mod ArrivingLemmas

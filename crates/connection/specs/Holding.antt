@@ -1,34 +1,55 @@
 -- Connections that are held until their requests are whole: what a look does, which one is served next, and which one
 -- makes room.
-use Rattle.std.specs.Prelude.{◌≡◌, ◌≢◌, ◌⊎◌, ◌+◌, ◌-◌, ◌/◌, ◌≤◌, ◌<◌, ℕ, suc, Bool, IsTrue, List, [], ◌∷◌, ◌++◌}
-use Rattle.std.specs.Prelude.{false, true, length, min, Option, Some, None, if◌then◌else◌, nat_lt, vec_capacity}
+use Rattle.std.specs.Prelude.{◌≡◌, ◌≢◌, ◌⊎◌, ◌+◌, ◌-◌, ◌≤◌, ◌<◌, ℕ, suc, Bool, IsTrue, List, [], ◌∷◌, ◌++◌, ⊤}
+use Rattle.std.specs.Prelude.{false, true, length, min, take, Option, Some, None, if◌then◌else◌, nat_lt, nat_le, vec_capacity}
 use Rattle.std.specs.List.{slice_index_or, sum_by}
+use Rattle.std.specs.VecDeque.{deque_len}
 use Rattle.std.specs.Io.KnownBytes.{Keeps, prepend_known}
-use Rattle.std.specs.Time.{FitsClock, instant_nanos}
+use Rattle.std.specs.Time.{instant_nanos}
 use Rattle.std.specs.declared.time.Instant.{Instant}
 use Rattle.connection.specs.declared.held.Held.{Held}
-use Rattle.connection.specs.declared.pace.Pace.{Pace}
+use Rattle.connection.specs.declared.held.Arrival.{Arrival}
+use Rattle.connection.specs.declared.held.Arrival.TheVariants.{Bytes, Nothing, Last}
+use Rattle.connection.specs.declared.received.Received.{Received}
+use Rattle.connection.specs.declared.waiting.Waiting.{Waiting}
+use Rattle.connection.specs.Arriving.{Waits}
+use Rattle.connection.specs.Limits.{granted}
+use Rattle.connection.specs.Pacing.{IsNextLook}
 
 -- ---- one look
 
--- when to look again after nothing has moved since a moment: after an eighth of that time, and at most 256 ms
-abbrev pub waited : (moved now : Instant) → ℕ
-waited moved now = instant_nanos now + min ((instant_nanos now - instant_nanos moved) / 8) 256_000_000
+-- what was found of the bytes that came: they wait for more, or there are none
+abbrev pub HasCome : (old new : Received) → Arrival → Type 0
+HasCome old new Bytes = ∥ Waits new.bytes.items ∥₁
+HasCome old new Nothing = new.bytes.items ≡ old.bytes.items
+HasCome old new Last = ⊤
 
--- a look set when to look again: at once, as something moved, or later, as nothing did
-abbrev pub IsPaced : (old new : Pace) → (now : Instant) → Type 0
-IsPaced old new now = ((new.moved ≡ now) × (new.next ≡ now))
-    ⊎ ((new.moved ≡ old.moved) × (FitsClock (waited old.moved now) → instant_nanos new.next ≡ waited old.moved now))
+-- A connection isn't served after a look: it gave no bytes, or its request isn't whole. The next look is set
+pub record IsPutBack {S : Type 0} (now : Instant) (old new : Held S) : Type 0 where
+  pub waits : (new.received.bytes.items ≡ old.received.bytes.items) ⊎ ∥ Waits new.received.bytes.items ∥₁
+  pub paced : IsNextLook old.accepted now new.next
 
--- What a look leaves: the bytes that were received, and then those of the stream, are the same from the first on. If
--- the connection can't be served and it was time to look, its stream was looked at now
+-- What a look leaves: the bytes that were received, and then those of the stream, are the same from the first on
 pub record Looks {S : Type 0} (remaining : S → Option (List ℕ)) (now : Instant) (old new : Held S) (is_ready : Bool)
     : Type 0 where
   pub bytes : Keeps (prepend_known old.received.bytes.items (remaining old.stream))
       (prepend_known new.received.bytes.items (remaining new.stream))
   pub deadline : new.deadline ≡ old.deadline
   pub accepted : new.accepted ≡ old.accepted
-  pub paced : instant_nanos old.pace.next ≤ instant_nanos now → IsTrue is_ready ⊎ IsPaced old.pace new.pace now
+  pub put_back : IsTrue is_ready ⊎ IsPutBack now old new
+
+-- it is time to look at a connection
+abbrev pub is_time : {S : Type 0} → (now : Instant) → Held S → Bool
+is_time now held = nat_le (instant_nanos held.next) (instant_nanos now)
+
+-- a connection is passed: it is looked at if it is time to, and can't be served
+abbrev pub IsPassed : {S : Type 0} → (remaining : S → Option (List ℕ)) → (now : Instant) → (old new : Held S) → Type 0
+IsPassed remaining now old new =
+    ((is_time now old ≡ true) × Looks remaining now old new false) ⊎ ((is_time now old ≡ false) × (new ≡ old))
+
+-- how many of the connections before a place it is time to look at
+abbrev pub looks_before : {S : Type 0} → (now : Instant) → (place : ℕ) → List (Held S) → ℕ
+looks_before now place connections = sum_by (λ held. if is_time now held then 1 else 0) (take place connections)
 
 -- ---- all of them, in the order in which they were accepted
 
@@ -39,39 +60,60 @@ module _ {S : Type 0} (remaining : S → Option (List ℕ)) (now : Instant) wher
     pub others : (n : ℕ) (d : Held S) → n ≢ place → slice_index_or new n d ≡ slice_index_or old n d
     pub length : length new ≡ length old
 
-  -- the connections from a place up to another were looked at in turn, and none of them can be served
+  -- the connections from a place up to another were passed in turn
   abbrev pub ArePassed : (first end : ℕ) → (old new : List (Held S)) → Type 0
   ArePassed first end old new = (n : ℕ) (d : Held S) → first ≤ n → n < end →
-      Looks remaining now (slice_index_or old n d) (slice_index_or new n d) false
+      IsPassed remaining now (slice_index_or old n d) (slice_index_or new n d)
 
-  -- Of at most `most` connections from a place on, the first that can be served was taken out. Those before it were
-  -- looked at, and no others were; or all of these were looked at, and none can be served. The place to go on with,
-  -- `next`, is the first that wasn't looked at
-  abbrev pub TakesFirst : (most first next : ℕ) → (old new : List (Held S)) → Option (Held S) → Type 0
-  TakesFirst most first next old new None =
-      (next ≡ min (length old) (first + most))
+  -- From a place up to the end of the round, the first connection that can be served was taken out, and those before it
+  -- were passed. Or none was: all of these were passed, or as many of them as `most` looks allow. The others stay as
+  -- they were. The place to go on with, `next`, is the first that wasn't passed
+  abbrev pub TakesFirst : (most first end next : ℕ) → (old new : List (Held S)) → Option (Held S) → Type 0
+  TakesFirst most first end next old new None =
+      (first ≤ next) × (next ≤ end)
+      × ((next ≡ end) ⊎ (looks_before now first old + most ≡ looks_before now next old))
+      × (looks_before now next old ≤ looks_before now first old + most)
       × ArePassed first next old new
       × ((n : ℕ) (d : Held S) → (n < first) ⊎ (next ≤ n) → slice_index_or new n d ≡ slice_index_or old n d)
       × (length new ≡ length old)
-  TakesFirst most first next old new (Some held) =
-      (first ≤ next) × (next < length old)
+  TakesFirst most first end next old new (Some held) =
+      (first ≤ next) × (next < end)
+      × (looks_before now next old < looks_before now first old + most)
       × ArePassed first next old new
       × ((n : ℕ) (d : Held S) → n < first → slice_index_or new n d ≡ slice_index_or old n d)
       × ((d : Held S) → Looks remaining now (slice_index_or old next d) held true)
       × ((n : ℕ) (d : Held S) → next ≤ n → n < length new → slice_index_or new n d ≡ slice_index_or old (suc n) d)
       × (length new + 1 ≡ length old)
 
--- where a call goes on: after the last connection it begins with the first one again
-abbrev pub place_to_go_on : (next count : ℕ) → ℕ
-place_to_go_on next count = if nat_lt next count then next else 0
+-- ---- rounds
+
+-- where the round ends that is under way: before the connections that joined since it began
+abbrev pub round_end : {S : Type 0} → Waiting S → ℕ
+round_end waiting = min waiting.end (deque_len waiting.connections)
+
+-- the place with which a call begins: it goes on with the round, or begins another with the first connection
+abbrev pub first_of : {S : Type 0} → Waiting S → ℕ
+first_of waiting = if nat_lt waiting.next (round_end waiting) then waiting.next else 0
+
+-- where the round of that call ends: another round has all connections that are held when it begins
+abbrev pub end_of : {S : Type 0} → Waiting S → ℕ
+end_of waiting = if nat_lt waiting.next (round_end waiting) then round_end waiting else deque_len waiting.connections
+
+-- how many connections were taken out
+abbrev pub count_of : {S : Type 0} → Option (Held S) → ℕ
+count_of None = 0
+count_of (Some held) = 1
+
+-- a call goes on with its round, which has one connection less if one was taken out
+pub record Takes {S : Type 0} (remaining : S → Option (List ℕ)) (now : Instant) (most : ℕ) (old new : Waiting S)
+    (taken : Option (Held S)) : Type 0 where
+  pub takes : TakesFirst remaining now most (first_of old) (end_of old) new.next
+      old.connections.items new.connections.items taken
+  pub end : new.end + count_of taken ≡ end_of old
 
 -- ---- room for one more
 
--- for how many nanoseconds each connection may wait for its request, even if others have no place
-abbrev pub granted : ℕ
-granted = 100_000_000
-
--- the first connection, which is the oldest, has had that time
+-- the first connection, which is the oldest, has had the time that each is granted
 abbrev pub IsDue : {S : Type 0} → List (Held S) → (now : Instant) → Type 0
 IsDue [] now = ⊥
 IsDue (held ∷ others) now = granted ≤ instant_nanos now - instant_nanos held.accepted
@@ -80,28 +122,45 @@ IsDue (held ∷ others) now = granted ≤ instant_nanos now - instant_nanos held
 abbrev pub HasRoom : {S : Type 0} → (most : ℕ) → List (Held S) → (now : Instant) → Type 0
 HasRoom most connections now = (length connections < most) ⊎ IsDue connections now
 
--- The oldest connection was given up, and the others stay. The place to go on with moves with its connection
-pub record GivesUp {S : Type 0} (now : Instant) (old new : List (Held S)) (next next_then : ℕ) : Type 0 where
+-- The place to go on with moves with its connection, and so does the end of the round
+pub record MovesUp {S : Type 0} (old new : Waiting S) : Type 0 where
+  pub next : new.next ≡ old.next - 1
+  pub end : new.end ≡ old.end - 1
+
+-- the place to go on with stays, and so does the end of the round
+pub record StaysThere {S : Type 0} (old new : Waiting S) : Type 0 where
+  pub next : new.next ≡ old.next
+  pub end : new.end ≡ old.end
+
+-- the oldest connection was given up, and the others stay
+pub record GivesUp {S : Type 0} (now : Instant) (old new : Waiting S) : Type 0 where
   pub oldest : Held S
-  pub were : old ≡ oldest ∷ new
-  pub due : IsDue old now
-  pub goes_on : next_then ≡ next - 1
+  pub were : old.connections.items ≡ oldest ∷ new.connections.items
+  pub due : IsDue old.connections.items now
+  pub moves : MovesUp old new
 
 -- the oldest connection was given up for this one
-pub record GivesUpFor {S : Type 0} (held : Held S) (now : Instant) (old new : List (Held S)) (next next_then : ℕ)
-    : Type 0 where
+pub record GivesUpFor {S : Type 0} (held : Held S) (now : Instant) (old new : Waiting S) : Type 0 where
+  pub oldest : Held S
   pub others : List (Held S)
-  pub gives_up : GivesUp now old others next next_then
-  pub are : new ≡ others ++ held ∷ []
+  pub were : old.connections.items ≡ oldest ∷ others
+  pub are : new.connections.items ≡ others ++ held ∷ []
+  pub due : IsDue old.connections.items now
+  pub moves : MovesUp old new
+
+-- this connection is held too, behind the others: it has no part in the round that is under way
+pub record Holds {S : Type 0} (held : Held S) (old new : Waiting S) : Type 0 where
+  pub are : new.connections.items ≡ old.connections.items ++ held ∷ []
+  pub stays : StaysThere old new
 
 -- Why this connection isn't held, or another one isn't any more: out of memory (`is_tight`), or there is no room; or
 -- the oldest was given up for it
-abbrev pub Refuses : {S : Type 0} → (most : ℕ) → Held S → (now : Instant) → (old new : List (Held S))
-    → (next next_then : ℕ) → (is_tight : Type 0)
+abbrev pub Refuses : {S : Type 0} → (most : ℕ) → Held S → (now : Instant) → (old new : Waiting S) → (is_tight : Type 0)
     → Type 0
-Refuses most held now old new next next_then is_tight =
-    ((new ≡ old) × (next_then ≡ next) × (is_tight ⊎ (HasRoom most old now → ⊥)))
-    ⊎ GivesUpFor held now old new next next_then
+Refuses most held now old new is_tight =
+    ((new.connections.items ≡ old.connections.items) × StaysThere old new
+    × (is_tight ⊎ (HasRoom most old.connections.items now → ⊥)))
+    ⊎ GivesUpFor held now old new
 
 -- ---- the memory of all of them
 

@@ -6,7 +6,11 @@ pub mod Deadlines
 pub mod Listening
 pub mod Requests
 pub mod Streams
+pub mod Accepting
+pub mod Limits
+pub mod Pacing
 pub mod Holding
+pub mod Rounds
 pub mod Arriving
 pub mod Endings
 pub mod Turns

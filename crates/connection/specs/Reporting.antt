@@ -2,10 +2,7 @@
 use Rattle.std.specs.Prelude.{ℕ, ◌+◌, ◌-◌, ◌^◌, ◌≤◌, ⊤, Option, Some, None, min}
 use Rattle.std.specs.Time.{instant_nanos}
 use Rattle.std.specs.declared.time.Instant.{Instant}
-
--- the fewest nanoseconds between two reports
-abbrev pub report_pause : ℕ
-report_pause = 1_000_000_000
+use Rattle.connection.specs.Limits.{report_pause}
 
 -- there was no report yet, or the last one is a second ago
 abbrev pub MayReport : (reported : Option Instant) → (now : Instant) → Type 0

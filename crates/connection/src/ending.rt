@@ -5,15 +5,13 @@ ghost use Rattle.connection.specs.Endings.{BeginsWith, is_sent};
 ghost use Rattle.connection.specs.Streams.{with_unsent};
 
 use crate::late::LateWriter;
-use crate::pace::Pace;
+use crate::limits::drain_time;
+use crate::pace::next_look;
 use crate::prompt::PromptStream;
 use std::io;
 use std::io::{ErrorKind, Read, Write};
 use std::net::OpenStream;
-use std::time::{Clock, Duration, Instant};
-
-/// For how many seconds a peer may still send after it has its answer.
-const DRAIN_SECONDS: u64 = 2;
+use std::time::{Clock, Instant};
 
 /// The most bytes that one read discards, and the most reads of one look.
 const DRAIN_READ: usize = 4_096;
@@ -29,7 +27,10 @@ pub(crate) struct Ending<'a, S: Drop, C> {
     unsent: Vec<u8>,
     /// How many of the unsent bytes were sent since.
     sent: usize,
-    pace: Pace,
+    /// When something moved last.
+    moved: Instant,
+    /// When to look again.
+    next: Instant,
 }
 
 /// What a look at an ending found.
@@ -53,7 +54,8 @@ impl<'a, S: Read + Write + OpenStream + Drop, C: Clock> Ending<'a, S, C> {
             stream: writer,
             unsent,
             sent: 0,
-            pace: Pace::new(now),
+            moved: now,
+            next: now,
         };
         if ending.is_sent() {
             ending.shut_down(now);
@@ -70,7 +72,7 @@ impl<'a, S: Read + Write + OpenStream + Drop, C: Clock> Ending<'a, S, C> {
 
     /// When something moved last.
     pub(crate) fn moved(&self) -> Instant {
-        self.pace.moved
+        self.moved
     }
 
     /// How many bytes of memory are taken for the peer: none once its answer is sent.
@@ -82,14 +84,14 @@ impl<'a, S: Read + Write + OpenStream + Drop, C: Clock> Ending<'a, S, C> {
 
     /// Goes on, if it is time to look, and doesn't wait.
     pub(crate) fn go_on(&mut self, now: Instant) -> Step {
-        if !self.pace.is_due(now) {
+        if now < self.next {
             return Step::Waits;
         }
         let step = self.send_or_drain(now);
-        match step {
-            Step::Moves => self.pace = Pace::new(now),
-            _ => self.pace.wait(now),
+        if let Step::Moves = step {
+            self.moved = now;
         }
+        self.next = next_look(self.moved, now);
         step
     }
 
@@ -139,7 +141,7 @@ impl<'a, S: Read + Write + OpenStream + Drop, C: Clock> Ending<'a, S, C> {
         self.unsent.shrink_to_fit();
         self.sent = 0;
         self.stream.shut_down();
-        if let Some(end) = now.checked_add(Duration::from_secs(DRAIN_SECONDS)) {
+        if let Some(end) = now.checked_add(drain_time()) {
             self.stream.end_by(end);
         }
     }

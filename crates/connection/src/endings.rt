@@ -4,25 +4,15 @@ ghost use Rattle.std.specs.List.{remove, slice_index_or};
 ghost use Rattle.connection.specs.Endings.{lost_with};
 
 use crate::ending::{Ending, Step};
+use crate::limits::{MOST_ENDINGS, MOST_UNSENT, ending_pause, longest_turn};
 use std::alloc::Global;
 use std::io::{Read, Write};
 use std::net::OpenStream;
 use std::thread;
-use std::time::{Clock, Duration, Instant};
+use std::time::{Clock, Instant};
 
-/// The most endings that are kept.
-pub(crate) const MOST_ENDINGS: usize = 256;
-
-/// The most bytes of answers that are kept for slow peers, all together.
-const MOST_UNSENT: usize = 16_777_216;
-
-/// The longest time between two looks at all endings while connections wait, in milliseconds.
-const LONGEST_TURN: u64 = 1;
-
-/// The most looks at all endings once no more connections are accepted, and the milliseconds between them.
-const MOST_LOOKS: u32 = 1_000_000;
-
-const LOOK_PAUSE: u64 = 1;
+/// The most looks at all endings once no more connections are accepted.
+const MOST_TURNS: u32 = 1_000_000;
 
 /// The endings of connections, in the order in which they were served. Dropping them waits for them.
 pub(crate) struct Endings<'a, S: Read + Write + OpenStream + Drop, C: Clock> {
@@ -70,7 +60,7 @@ impl<'a, S: Read + Write + OpenStream + Drop, C: Clock> Endings<'a, S, C> {
     /// Whether it is time to look at all of them, even if connections wait.
     pub(crate) fn are_due(&self, now: Instant) -> bool {
         match self.looked {
-            Some(looked) => now.duration_since(looked) >= Duration::from_millis(LONGEST_TURN),
+            Some(looked) => now.duration_since(looked) >= longest_turn(),
             None => true,
         }
     }
@@ -210,7 +200,7 @@ impl<'a, S: Read + Write + OpenStream + Drop, C: Clock> Endings<'a, S, C> {
 
     /// Waits until all of them are over. Each has its deadline.
     pub(crate) fn finish(&mut self) {
-        for _ in 0..MOST_LOOKS {
+        for _ in 0..MOST_TURNS {
             let Ok(now) = Instant::now(self.clock) else {
                 return;
             };
@@ -219,7 +209,7 @@ impl<'a, S: Read + Write + OpenStream + Drop, C: Clock> Endings<'a, S, C> {
                 return;
             }
             if !has_moved {
-                thread::sleep(self.clock, Duration::from_millis(LOOK_PAUSE));
+                thread::sleep(self.clock, ending_pause());
             }
         }
     }

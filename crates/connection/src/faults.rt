@@ -2,10 +2,8 @@
 ghost use Rattle.std.specs.Prelude.{◌≡◌, ◌+◌, ◌<◌, ◌↔◌, None, Some, IsTrue};
 ghost use Rattle.connection.specs.Reporting.{MayReport, with_more};
 
-use std::time::{Duration, Instant};
-
-/// The fewest seconds between two reports.
-const REPORT_SECONDS: u64 = 1;
+use crate::limits::report_pause;
+use std::time::Instant;
 
 /// Faults of connections, of which some aren't reported yet.
 #[derive(Clone, Copy)]
@@ -67,7 +65,7 @@ pub(crate) fn may_report(reported: Option<Instant>, now: Instant) -> bool
     ensures { IsTrue result ↔ MayReport reported now }
 {
     match reported {
-        Some(reported) => now.duration_since(reported) >= Duration::from_secs(REPORT_SECONDS),
+        Some(reported) => now.duration_since(reported) >= report_pause(),
         None => true,
     }
 }

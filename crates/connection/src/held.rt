@@ -1,10 +1,10 @@
 //! Connections whose requests aren't whole yet.
 ghost use Rattle.std.specs.Prelude.{◌≡◌, []};
 ghost use Rattle.std.specs.Io.KnownBytes.{Keeps, prepend_known};
-ghost use Rattle.connection.specs.Holding.{Looks};
+ghost use Rattle.connection.specs.Holding.{HasCome, Looks, is_time};
 
 use crate::deadline::Deadline;
-use crate::pace::Pace;
+use crate::pace::next_look;
 use crate::received::Received;
 use http_text::{BODY_LIMIT, HEAD_LIMIT};
 use std::alloc::Global;
@@ -27,13 +27,14 @@ pub(crate) struct Held<S: Drop> {
     pub(crate) deadline: Deadline,
     /// When it was accepted.
     pub(crate) accepted: Instant,
+    /// When to look at it again: the older the connection, the later, whether anything comes or not.
+    pub(crate) next: Instant,
     pub(crate) received: Received,
-    pub(crate) pace: Pace,
 }
 
 /// What a look at a connection found.
 #[derive(Clone, Copy)]
-enum Arrival {
+pub(crate) enum Arrival {
     /// Some bytes, which don't decide yet what is answered.
     Bytes,
     Nothing,
@@ -48,34 +49,38 @@ impl<S: Read + Drop> Held<S> {
         ensures stream { result.stream ≡ stream }
         ensures deadline { result.deadline ≡ deadline }
         ensures accepted { result.accepted ≡ now }
+        ensures next { result.next ≡ now }
         ensures received { result.received.bytes.items ≡ [] }
     {
         Held {
             stream,
             deadline,
             accepted: now,
+            next: now,
             received: Received::new(alloc),
-            pace: Pace::new(now),
         }
     }
 
+    /// Whether it is time to look at the connection.
+    pub(crate) fn is_due(&self, now: Instant) -> bool
+        ensures { result ≡ is_time now self.now }
+    {
+        now.checked_duration_since(self.next).is_some()
+    }
+
     /// Whether the connection can be served: its request is whole or refused, no more comes, or its time is
-    /// over. It looks only if it is time to look, and doesn't wait.
+    /// over. It looks now, and doesn't wait.
     pub(crate) fn is_ready(&mut self, alloc: Global, now: Instant) -> bool
         ensures { Looks S.remaining now self.old self.new result }
     {
-        if !self.pace.is_due(now) {
-            return false;
-        }
         if self.deadline.left_at(now).is_none() {
             return true;
         }
-        match self.receive(alloc) {
-            Arrival::Bytes => self.pace = Pace::new(now),
-            Arrival::Nothing => self.pace.wait(now),
-            Arrival::Last => return true,
+        if let Arrival::Last = self.receive(alloc) {
+            return true;
         }
         self.received.shrink();
+        self.next = next_look(self.accepted, now);
         false
     }
 
@@ -85,7 +90,7 @@ impl<S: Read + Drop> Held<S> {
             (prepend_known self.new.received.bytes.items (S.remaining self.new.stream)) }
         ensures deadline { self.new.deadline ≡ self.old.deadline }
         ensures accepted { self.new.accepted ≡ self.old.accepted }
-        ensures pace { self.new.pace ≡ self.old.pace }
+        ensures come { HasCome self.old.received self.new.received result }
     {
         let mut arrival = Arrival::Nothing;
         for _ in 0..MOST_READS {
@@ -104,7 +109,7 @@ impl<S: Read + Drop> Held<S> {
             (prepend_known self.new.received.bytes.items (S.remaining self.new.stream)) }
         ensures deadline { self.new.deadline ≡ self.old.deadline }
         ensures accepted { self.new.accepted ≡ self.old.accepted }
-        ensures pace { self.new.pace ≡ self.old.pace }
+        ensures come { HasCome self.old.received self.new.received result }
     {
         let mut buffer = [0; READ_LIMIT];
         let room = MOST_BYTES

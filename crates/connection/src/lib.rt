@@ -1,6 +1,7 @@
 //! The connections of a provider, one after another, each with a deadline.
 #![tactic(auto)]
 
+mod accepting;
 mod ahead;
 mod answering;
 mod deadline;
@@ -10,6 +11,7 @@ mod faults;
 mod held;
 mod late;
 mod laws;
+mod limits;
 mod listening;
 mod pace;
 mod prompt;
@@ -26,7 +28,7 @@ pub use ahead::AheadReader;
 pub use answering::{Served, serve};
 pub use deadline::Deadline;
 pub use late::LateWriter;
-pub use laws::stops_leave_one_request;
+pub use laws::{rounds_meet_everybody, stops_leave_one_request};
 pub use listening::Listen;
 pub use prompt::PromptStream;
 pub use serving::{ConnectionFault, answered, serve_connections, serve_from_memory, serve_next};

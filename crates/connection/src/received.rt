@@ -12,7 +12,7 @@ use http_text::HEAD_LIMIT;
 use std::alloc::{AllocError, Global};
 
 /// A part of a head is read again if more than this part of it has come since.
-const PART: usize = 8;
+const PART_OF_HEAD: usize = 8;
 
 /// A shorter part of a request is read at each arrival.
 const FEWEST_MEASURED: usize = 256;
@@ -85,8 +85,8 @@ impl Received {
     }
 
     /// Whether the bytes decide what is answered: they hold a whole request, or are refused. It reads them only if
-    /// more may be known since the last time, so that all readings together cost little more than one. If memory runs
-    /// out, nobody waits for more.
+    /// more may be known since the last time: a head that comes byte by byte a few dozen times, and once more for each
+    /// of its lines. If memory runs out, nobody waits for more.
     pub(crate) fn is_ready(&mut self, alloc: Global) -> bool
         ensures waits { OnFalse result ∥ Waits self.new.bytes.items ∥₁ }
         ensures bytes { self.new.bytes ≡ self.old.bytes }
@@ -106,7 +106,7 @@ impl Received {
         let Some(more) = self.bytes.get(self.read..) else {
             return false;
         };
-        if self.bytes.len() >= HEAD_LIMIT || more.len() > self.read / PART {
+        if self.bytes.len() >= HEAD_LIMIT || more.len() > self.read / PART_OF_HEAD {
             return false;
         }
         !has_line_end(more)

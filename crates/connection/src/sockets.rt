@@ -2,6 +2,7 @@
 ghost use Rattle.std.specs.Prelude.{◌≡◌, ◌-◌, [], IfOk};
 ghost use Rattle.connection.specs.Reporting.{with_more};
 
+use crate::accepting::makes_room;
 use crate::ahead::AheadReader;
 use crate::deadline::Deadline;
 use crate::ending::Ending;
@@ -9,6 +10,7 @@ use crate::endings::Endings;
 use crate::faults::{FaultCount, may_report};
 use crate::held::Held;
 use crate::late::LateWriter;
+use crate::limits::{MOST_IN_A_ROW, count_pause, first_sleep, longest_sleep};
 use crate::listening::Listen;
 use crate::prompt::PromptStream;
 use crate::serving::{ConnectionFault, tell};
@@ -20,13 +22,8 @@ use std::net::{OpenListener, OpenStream};
 use std::time::{Clock, Duration, Instant};
 use std::{io, thread};
 
-/// How often it is looked for something to do before the first pause.
+/// How often it is looked for something to do before the first sleep.
 const LOOKS_AT_ONCE: u32 = 50;
-
-/// The first pause and the longest one, in microseconds. Each is longer than the one before by the first.
-const FIRST_PAUSE: u64 = 20;
-
-const LONGEST_PAUSE: u64 = 4_000;
 
 /// The connections of a listening socket. Each has this time in all, from when it is accepted. A connection
 /// is given out when its request is whole, is refused by its form, has ended or failed, or is out of time.
@@ -47,8 +44,10 @@ where
     reported: Option<Instant>,
     faults: FaultCount,
     waiting: Waiting<L::Stream>,
-    /// Whether the last connection that was given out had waited: then a new one comes first.
-    is_turn_of_new: bool,
+    /// When the memory of those that wait was counted last, and nobody had to leave.
+    counted: Option<Instant>,
+    /// How many new connections may come before those that wait are looked at again.
+    turns_of_new: u32,
     endings: Endings<'a, SharedStream<L::Stream>, C>,
 }
 
@@ -75,7 +74,8 @@ where
             reported: None,
             faults: FaultCount::new(),
             waiting: Waiting::new(alloc),
-            is_turn_of_new: false,
+            counted: None,
+            turns_of_new: 0,
             endings: Endings::new(alloc, clock),
         }
     }
@@ -85,7 +85,7 @@ where
     fn look(&mut self) -> io::Result<Look<L::Stream>> {
         let now = Instant::now(self.clock)?;
         let has_moved = self.endings.are_due(now) && self.endings.go_on(now);
-        if self.waiting.is_round_over() && self.waiting.free_memory(now) {
+        if self.is_memory_due(now) && self.free_memory(now) {
             return Err(io::Error::from(ErrorKind::TimedOut));
         }
         if let Some(held) = self.take_ready(now) {
@@ -94,6 +94,7 @@ where
         if let Some(stream) = self.next_stream(now)? {
             return self.look_at(stream);
         }
+        self.turns_of_new = 0;
         if has_moved || self.endings.go_on(now) {
             Ok(Look::Moves)
         } else if self.waiting.is_round_over() {
@@ -103,15 +104,31 @@ where
         }
     }
 
-    /// Takes out the next connection that can be served, unless it is the turn of a new one.
+    /// Whether it is time to count the memory of those that wait.
+    fn is_memory_due(&self, now: Instant) -> bool {
+        match self.counted {
+            Some(counted) => now.duration_since(counted) >= count_pause(),
+            None => true,
+        }
+    }
+
+    /// Gives up the oldest connection if the requests of those that wait take too much memory. It returns whether it
+    /// did: then they are counted again at once.
+    fn free_memory(&mut self, now: Instant) -> bool {
+        let is_freed = self.waiting.free_memory(now);
+        self.counted = if is_freed { None } else { Some(now) };
+        is_freed
+    }
+
+    /// Takes out the next connection that can be served, unless it is the turn of new ones: as long as they come, and
+    /// have to wait too, some of them are accepted in a row, so that the system's queue is emptied.
     fn take_ready(&mut self, now: Instant) -> Option<Held<L::Stream>> {
-        if self.is_turn_of_new {
-            self.is_turn_of_new = false;
+        if self.turns_of_new > 0 {
+            self.turns_of_new -= 1;
             return None;
         }
-        let ready = self.waiting.take_ready(self.alloc, now);
-        self.is_turn_of_new = ready.is_some();
-        ready
+        self.turns_of_new = MOST_IN_A_ROW;
+        self.waiting.take_ready(self.alloc, now)
     }
 
     /// The stream of a connection that the system has accepted. If there is nothing else to do, it waits for
@@ -134,10 +151,10 @@ where
         }
     }
 
-    /// The system gives no connection, because it has no descriptor left, say. Then the oldest connection makes
-    /// room. If none can, it is tried again after a pause; the fault is reported once a second at most.
+    /// The system gives no connection. If it has no descriptor or no memory left, the oldest connection makes room. If
+    /// none can, or another error came, it is tried again after a pause; the fault is reported once a second at most.
     fn unaccepted(&mut self, error: io::Error, now: Instant) -> io::Result<Option<L::Stream>> {
-        if error.kind() != ErrorKind::ConnectionAborted && self.waiting.give_up_oldest(now) {
+        if makes_room(error.raw_os_error()) && self.waiting.give_up_oldest(now) {
             return Err(error);
         }
         if !may_report(self.reported, now) {
@@ -155,6 +172,7 @@ where
         let now = Instant::now(self.clock)?;
         let mut held = Held::new(self.alloc, stream, deadline, now);
         if held.is_ready(self.alloc, now) {
+            self.turns_of_new = 0;
             return Ok(Look::Ready(held));
         }
         if self.waiting.hold(held, now) {
@@ -207,8 +225,8 @@ fn opened<'a, S: Read + Write + OpenStream + Drop, C: Clock>(
         stream,
         deadline,
         accepted: _,
+        next: _,
         received,
-        pace: _,
     } = held;
     let stream = SharedStream::new(alloc, stream)?;
     let reader = PromptStream::new(stream.try_clone()?, clock, deadline);
@@ -260,11 +278,11 @@ where
 
 /// Lets others run. After some looks without anything to do, it sleeps: first for a moment, then longer.
 fn pause(clock: &impl Clock, idle: u32) {
-    match u64::from(idle.saturating_sub(LOOKS_AT_ONCE)) {
+    match idle.saturating_sub(LOOKS_AT_ONCE) {
         0 => thread::yield_now(),
-        pauses => {
-            let length = pauses.saturating_mul(FIRST_PAUSE).min(LONGEST_PAUSE);
-            thread::sleep(clock, Duration::from_micros(length));
-        }
+        pauses => thread::sleep(
+            clock,
+            first_sleep().saturating_mul(pauses).min(longest_sleep()),
+        ),
     }
 }

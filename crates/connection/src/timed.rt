@@ -6,13 +6,11 @@ ghost use Rattle.std.specs.Io.KnownBytes.{ReadConsumes, WriteAppends};
 ghost use Rattle.connection.specs.Deadlines.{HadTime};
 
 use crate::deadline::Deadline;
+use crate::limits::longest_wait;
 use std::io;
 use std::io::{ErrorKind, Read, Write};
 use std::net::{OpenStream, Shutdown};
 use std::time::{Clock, Duration};
-
-/// The most seconds that one read waits.
-const WAIT_SECONDS: u64 = 1;
 
 /// A stream that fails from its deadline on. No call waits longer than the remaining time, and neither do
 /// many short calls together. A read that waited for a second is interrupted: the caller makes it again.
@@ -53,7 +51,7 @@ impl<'a, S: OpenStream + Drop, C: Clock> TimedStream<'a, S, C> {
         if self.read_limit.is_some_and(|limit| limit <= left) {
             return Ok(());
         }
-        let limit = left.min(Duration::from_secs(WAIT_SECONDS));
+        let limit = left.min(longest_wait());
         self.stream.set_read_timeout(Some(limit))?;
         self.read_limit = Some(limit);
         Ok(())

@@ -1,33 +1,26 @@
 //! All connections whose requests aren't whole yet.
-ghost use Rattle.std.specs.Prelude.{◌≡◌, ◌≤◌, ◌<◌, ◌↔◌, ◌⊎◌, [], ◌∷◌, ◌++◌, IsTrue};
+ghost use Rattle.std.specs.Prelude.{◌≡◌, ◌≤◌, ◌<◌, ◌+◌, ◌↔◌, ◌⊎◌, [], IsTrue};
 ghost use Rattle.std.specs.Bool.{OnFalse, OnTrue};
+ghost use Rattle.std.specs.List.{slice_index_or};
 ghost use Rattle.std.specs.VecDeque.{deque_capacity, deque_len};
-ghost use Rattle.connection.specs.Holding.{GivesUp, HasRoom, IsDue, LooksAt, Refuses, TakesFirst, memory_of, place_to_go_on};
+ghost use Rattle.connection.specs.Holding.{GivesUp, HasRoom, Holds, IsDue, LooksAt, Refuses, Takes, TakesFirst, count_of, end_of, first_of, is_time, memory_of, round_end};
 
 use crate::held::Held;
+use crate::limits::{MOST_HELD, MOST_LOOKS, MOST_MEMORY, granted};
 use std::alloc::Global;
 use std::collections::VecDeque;
 use std::io::Read;
-use std::time::{Duration, Instant};
+use std::time::Instant;
 
-/// The most connections that are held.
-const MOST_HELD: usize = 4_096;
-
-/// How many bytes of memory the requests of all of them take before the oldest is given up.
-const MOST_MEMORY: usize = 16_777_216;
-
-/// For how many milliseconds each connection may wait for its request, even if there is no place for others.
-const GRANTED: u64 = 100;
-
-/// The most connections that one call looks at.
-const MOST_LOOKS: usize = 16;
-
-/// Connections whose requests aren't whole yet, in the order in which they were accepted.
+/// Connections whose requests aren't whole yet, in the order in which they were accepted. They are passed in rounds.
+/// A round has those that are held when it begins.
 #[derive(Drop)]
 pub(crate) struct Waiting<S: Drop> {
     connections: VecDeque<Held<S>>,
-    /// The place of the connection that is looked at next.
+    /// The place of the connection that is passed next.
     next: usize,
+    /// The place where the round ends: those behind it joined since it began.
+    end: usize,
 }
 
 impl<S: Read + Drop> Waiting<S> {
@@ -37,6 +30,7 @@ impl<S: Read + Drop> Waiting<S> {
         Waiting {
             connections: VecDeque::new(alloc),
             next: 0,
+            end: 0,
         }
     }
 
@@ -46,11 +40,18 @@ impl<S: Read + Drop> Waiting<S> {
         self.connections.is_empty()
     }
 
-    /// Whether the last connection was looked at: the next look is at the first one again.
+    /// Whether all connections of the round were passed, or have left: the next call begins another.
     pub(crate) fn is_round_over(&self) -> bool
-        ensures { IsTrue result ↔ (deque_len self.now.connections ≤ self.now.next) }
+        ensures { IsTrue result ↔ (round_end self.now ≤ self.now.next) }
     {
-        self.next >= self.connections.len()
+        self.next >= self.round_end()
+    }
+
+    /// Where the round ends.
+    fn round_end(&self) -> usize
+        ensures { result ≡ round_end self.now }
+    {
+        self.end.min(self.connections.len())
     }
 
     /// Whether there is no place for one more.
@@ -73,15 +74,14 @@ impl<S: Read + Drop> Waiting<S> {
         ensures { IsTrue result ↔ IsDue self.now.connections.items now }
     {
         match self.connections.front() {
-            Some(held) => now.duration_since(held.accepted) >= Duration::from_millis(GRANTED),
+            Some(held) => now.duration_since(held.accepted) >= granted(),
             None => false,
         }
     }
 
     /// Gives up the oldest connection if it has had its time, and returns whether it did.
     pub(crate) fn give_up_oldest(&mut self, now: Instant) -> bool
-        ensures given_up { OnTrue result (GivesUp now self.old.connections.items
-            self.new.connections.items self.old.next self.new.next) }
+        ensures given_up { OnTrue result (GivesUp now self.old self.new) }
         ensures kept { OnFalse result
             ((self.new ≡ self.old) × (IsDue self.old.connections.items now → ⊥)) }
         ensures room { OnTrue result
@@ -92,18 +92,16 @@ impl<S: Read + Drop> Waiting<S> {
         }
         let _oldest = self.connections.pop_front();
         self.next = self.next.saturating_sub(1);
+        self.end = self.end.saturating_sub(1);
         true
     }
 
-    /// Holds a connection. If there is no place for it, the oldest one is given up. It returns whether it is held, and
-    /// all others still are.
+    /// Holds a connection, from the next round on. If there is no place for it, the oldest one is given up. It returns
+    /// whether it is held, and all others still are.
     pub(crate) fn hold(&mut self, held: Held<S>, now: Instant) -> bool
-        ensures kept { OnTrue result
-            ((self.new.connections.items ≡ self.old.connections.items ++ held ∷ [])
-            × (self.new.next ≡ self.old.next)) }
+        ensures kept { OnTrue result (Holds held self.old self.new) }
         ensures refused { OnFalse result
-            (Refuses MOST_HELD held now self.old.connections.items self.new.connections.items
-            self.old.next self.new.next
+            (Refuses MOST_HELD held now self.old self.new
             (deque_capacity self.old.connections ≤ deque_len self.old.connections)) }
         ensures bound { deque_len self.old.connections ≤ MOST_HELD →
             deque_len self.new.connections ≤ MOST_HELD }
@@ -118,35 +116,65 @@ impl<S: Read + Drop> Waiting<S> {
         false
     }
 
-    /// The place with which the next call begins.
-    fn place_to_go_on(&self) -> usize
-        ensures { result ≡ place_to_go_on self.now.next (deque_len self.now.connections) }
+    /// Takes out the next connection that can be served. It goes on with the round, or begins another if that is over.
+    /// Only connections that it is time to look at count among the `MOST_LOOKS` that it looks at.
+    pub(crate) fn take_ready(&mut self, alloc: Global, now: Instant) -> Option<Held<S>>
+        ensures { Takes S.remaining now MOST_LOOKS self.old self.new result }
     {
-        if self.next < self.connections.len() {
-            self.next
+        self.go_on();
+        self.take_from_round(alloc, now)
+    }
+
+    /// Goes on with the round, or begins another if it is over: that has all connections that are held now.
+    fn go_on(&mut self)
+        ensures next { self.new.next ≡ first_of self.old }
+        ensures end { self.new.end ≡ end_of self.old }
+        ensures connections { self.new.connections ≡ self.old.connections }
+    {
+        if self.is_round_over() {
+            self.next = 0;
+            self.end = self.connections.len();
         } else {
-            0
+            self.end = self.round_end();
         }
     }
 
-    /// Takes out the next connection that can be served. It looks at each one from where the last call stopped, but at
-    /// `MOST_LOOKS` at most.
-    pub(crate) fn take_ready(&mut self, alloc: Global, now: Instant) -> Option<Held<S>>
-        ensures { TakesFirst S.remaining now MOST_LOOKS
-            (place_to_go_on self.old.next (deque_len self.old.connections)) self.new.next
+    /// Takes out the next connection of the round that can be served.
+    fn take_from_round(&mut self, alloc: Global, now: Instant) -> Option<Held<S>>
+        requires begun { self.old.next ≤ self.old.end }
+        requires end { self.old.end ≤ deque_len self.old.connections }
+        ensures takes { TakesFirst S.remaining now MOST_LOOKS
+            self.old.next self.old.end self.new.next
             self.old.connections.items self.new.connections.items result }
+        ensures end { self.new.end + count_of result ≡ self.old.end }
     {
-        let count = self.connections.len();
-        let first = self.place_to_go_on();
-        let end = first.saturating_add(MOST_LOOKS).min(count);
+        let first = self.next;
+        let end = self.end;
+        let mut looks = 0;
         for place in first..end {
-            if self.is_ready_at(place, alloc, now) {
-                self.next = place;
-                return self.connections.remove(place);
+            self.next = place;
+            if self.is_time_at(place, now) {
+                if looks == MOST_LOOKS {
+                    return None;
+                }
+                looks += 1;
+                if self.is_ready_at(place, alloc, now) {
+                    self.end = end - 1;
+                    return self.connections.remove(place);
+                }
             }
         }
         self.next = end;
         None
+    }
+
+    /// Whether it is time to look at the connection at a place.
+    fn is_time_at(&self, place: usize, now: Instant) -> bool
+        requires { place < deque_len self.now.connections }
+        ensures { (d : _) → result
+            ≡ is_time now (slice_index_or self.now.connections.items place d) }
+    {
+        self.connections[place].is_due(now)
     }
 
     /// Whether the connection at a place can be served.
@@ -155,6 +183,7 @@ impl<S: Read + Drop> Waiting<S> {
         ensures looks { LooksAt S.remaining now place self.old.connections.items
             self.new.connections.items result }
         ensures next { self.new.next ≡ self.old.next }
+        ensures end { self.new.end ≡ self.old.end }
     {
         self.connections[place].is_ready(alloc, now)
     }
@@ -163,8 +192,7 @@ impl<S: Read + Drop> Waiting<S> {
     /// returns whether it did.
     pub(crate) fn free_memory(&mut self, now: Instant) -> bool
         ensures given_up { OnTrue result ((MOST_MEMORY ≤ memory_of self.old.connections.items)
-            × GivesUp now self.old.connections.items
-            self.new.connections.items self.old.next self.new.next) }
+            × GivesUp now self.old self.new) }
         ensures kept { OnFalse result ((self.new ≡ self.old)
             × ((memory_of self.old.connections.items < MOST_MEMORY)
             ⊎ (IsDue self.old.connections.items now → ⊥))) }
