@@ -1,11 +1,15 @@
 """Files that no command opens as its store or journal: each reports why, and leaves the file as it was."""
 import contextlib
+import itertools
 import os
+import pathlib
 import shutil
 import subprocess
 import sys
+import tempfile
 
 from databases import CURRENT, FORMS, make_journal, make_store, sql, user_entry, user_resource
+from faults import Fault, build_shim
 from support import (
     CREATE_BOB, PROGRAM, ProgramTest, Running, is_locked, journal_commands, scimlink, silent_provider, store_commands,
 )
@@ -105,6 +109,31 @@ class Openings:
         # SQLite takes back what was written
         self.assertEqual(sql(path, "SELECT count(*) FROM sqlite_schema WHERE name = 'left'"), [(0,)])
         self.assert_opened(path)
+
+    def test_an_opening_of_which_a_call_fails(self):
+        """To say why, scimlink writes nothing, though every other call succeeds."""
+        path = self.make()
+        self.assert_opened(path)
+        before = self.files()
+        room = pathlib.Path(self.enterContext(tempfile.TemporaryDirectory()))
+        shim = build_shim(room)
+        for kind, how, why in ("READ", "5", "disk I/O error"), ("WRITE", "28", "No space left on device"):
+            reasons = set()
+            for place in itertools.count(1):
+                fault = Fault(shim, room, kind, place, how)
+                run = scimlink(*self.commands(path)[0], **fault.options)
+                if not fault.has_come:
+                    break
+                if run.status:
+                    self.assert_fault(run, self.failed)
+                    self.assertEqual(self.files(), before, fault)
+                    reasons.add(run.errors.partition("\n")[2])
+            self.assertIn(f" {path}: {why}\n", reasons)
+
+    def files(self):
+        """What is in each file of the folder. The first 32 bytes of a log have a number that each opening draws."""
+        skipped = {True: 32, False: 0}
+        return {file.name: file.read_bytes()[skipped[file.name.endswith("-wal")]:] for file in self.folder.iterdir()}
 
     def test_the_file_of_the_other_side(self):
         path = self.make_other()

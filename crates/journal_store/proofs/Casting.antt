@@ -12,7 +12,8 @@ use Rattle.scim_key.specs.declared.records.Kind.TheVariants.{User, Group}
 use Rattle.source_csv.specs.declared.rows.Row as source
 use Rattle.source_csv.specs.declared.texts.TheConstants.{TEXT_FIELD_COUNT}
 use Rattle.journal_core.specs.declared.entries.Entry.{Entry}
-use Rattle.journal_store.specs.Format.{column_count, entry_tables, places}
+use Rattle.journal_store.specs.Format.{column_count, entry_tables}
+use Rattle.journal_store.specs.Tables.{places}
 use Rattle.journal_store.specs.Rows.{active_in, active_of, all_texts, columns_at, confirmed_in, entry_by, entry_in, fields_in, group_in, id_in, keyed, members_in, number_in, parts_in, revision_in, text_columns, text_in, texts_in, user_in}
 use Rattle.sql_tables.proofs.Values.{cast_int}
 use Rattle.journal_store.proofs.Decoding.{keyed_same}

@@ -27,7 +27,7 @@ use Rattle.source_csv.specs.declared.texts.TheConstants.{TEXT_FIELD_COUNT}
 use Rattle.source_csv.specs.declared.rows.Row.TheVariants.{User, Group}
 use Rattle.journal_core.proofs.Trees.{name_from_test}
 use Rattle.journal_core.specs.declared.entries.Entry.{Entry}
-use Rattle.journal_store.specs.Rows.{id_value, id_in, active_number, active_of, members_text, row_by, confirmed_in, entry_by, entry_in, fields_in, group_in, keyed, number_in, text_columns, text_in, texts_in, shown_row, user_in}
+use Rattle.journal_store.specs.Rows.{active_number, active_of, confirmed_in, entry_by, entry_in, fields_in, group_in, id_in, id_value, keyed, members_text, number_in, row_by, shown_row, text_columns, text_in, texts_in, user_in}
 use Rattle.journal_store.proofs.UserTexts.{row_texts, text_from}
 use Rattle.journal_store.specs.Connections.{stored_row}
 

@@ -4,7 +4,9 @@ use Rattle.sqlite_schema.specs.declared.schema.Column.{Column}
 use Rattle.sqlite_schema.specs.declared.schema.Index.{Index}
 use Rattle.sqlite_schema.specs.declared.schema.Schema.{Schema}
 use Rattle.sqlite_schema.specs.declared.schema.Table.{Table}
-use Rattle.journal_store.specs.Format.{EntryTable, first_groups, first_users, format_name, keyed_index, keyed_table, second_users, third_groups, third_users}
+use Rattle.journal_store.specs.Tables.{EntryTable, format_name, keyed_index, keyed_table}
+use Rattle.journal_store.specs.Older.Format.{first_groups, first_users, second_users}
+use Rattle.journal_store.specs.Format.{third_groups, third_users}
 use Rattle.sql_tables.specs.Layouts.{format_table}
 use Rattle.journal_store.specs.Opening.{IsEntryTable, IsFirst, IsJournal, IsKeyedTable, IsSecond}
 

@@ -11,7 +11,7 @@ use Rattle.scim_key.specs.declared.records.Kind.{Kind}
 use Rattle.scim_key.specs.declared.records.Kind.TheVariants.{User, Group}
 use Rattle.scim_key.specs.declared.records.RecordName.{RecordName}
 use Rattle.journal_core.specs.declared.entries.Entry.{Entry}
-use Rattle.journal_store.specs.Format.{journal_schema, entry_tree, find_text, all_text, numbers_text}
+use Rattle.journal_store.specs.Format.{all_text, entry_tree, find_text, journal_schema, numbers_text}
 use Rattle.sql_tables.specs.Layouts.{IsLaid as IsLaidBy}
 use Rattle.sqlite_schema.specs.declared.schema.Schema.{Schema}
 use Rattle.sql_tables.specs.Statements.{Answers, IsGiven}

@@ -6,7 +6,7 @@ use Rattle.scim_key.specs.declared.records.Kind.{Kind}
 use Rattle.scim_key.specs.declared.records.Kind.TheVariants.{User, Group}
 use Rattle.sql_tables.specs.Statements.{IsGiven}
 use Rattle.sql_tables.specs.Layouts.{format_tree}
-use Rattle.journal_store.specs.Format.{Form, journal_schema, entry_tree, all_text, marked_text, numbers_text}
+use Rattle.journal_store.specs.Format.{Form, all_text, entry_tree, journal_schema, marked_text, numbers_text}
 use Rattle.sql_tables.proofs.Marking.{marked_shown}
 use Rattle.sql_tables.proofs.Queries.{given_by, query}
 use Rattle.journal_store.proofs.Texts.{all_is, all_order, marked_is, number_order, number_shown, numbers_is, shown_terms}

@@ -40,7 +40,8 @@ use Rattle.sql_tables.proofs.Queries.{query}
 use Rattle.sql_tables.proofs.Selecting.{shows}
 use Rattle.sql_tables.proofs.Values.{cast_int}
 use Rattle.journal_store.specs.Connections.{Commits, HasNumbers, IsEditText, IsLaid, IsThere, has_key}
-use Rattle.journal_store.specs.Format.{Form, entry_place, entry_tree, journal_schema, places, table_of, third_groups, third_users}
+use Rattle.journal_store.specs.Format.{Form, entry_place, entry_tree, journal_schema, third_groups, third_users}
+use Rattle.journal_store.specs.Tables.{places, table_of}
 use Rattle.journal_store.specs.Learning.{Learns, learn_text, learnt_row, learnt_values}
 use Rattle.journal_store.specs.Resets.{kept_count}
 use Rattle.journal_store.specs.Rows.{entries_in, entry_in, shown_row}

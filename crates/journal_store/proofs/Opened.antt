@@ -13,7 +13,8 @@ use Rattle.sql_tables.specs.declared.marks.Mark.TheVariants.{Own, Newer, Unmarke
 use Rattle.sql_tables.proofs.Results.{if_err}
 use Rattle.sql_tables.specs.Statements.{Looks}
 use Rattle.journal_store.specs.Format.{format_number}
-use Rattle.journal_store.specs.Formats.{FormatData, current_format, first_format, second_format}
+use Rattle.journal_store.specs.Formats.{FormatData, current_format}
+use Rattle.journal_store.specs.Older.Formats.{first_format, second_format}
 use Rattle.journal_store.specs.Opening.{IsCarriedBy, IsCause, IsFor, IsJournal, IsNewer, IsNotLaid, IsNotLaidBy, IsSpoilt, IsSpoiltBy, IsStore, IsStoreBy, LeavesCarried, LeavesCarriedBy, LeavesStanding, Stands}
 use Rattle.journal_store.specs.declared.opening.JournalOpenFault.{JournalOpenFault}
 use Rattle.journal_store.proofs.Checking.{is_for}

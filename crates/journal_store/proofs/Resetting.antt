@@ -43,7 +43,8 @@ use Rattle.sql_tables.proofs.Queries.{query}
 use Rattle.sql_tables.proofs.Selecting.{mapped, shows}
 use Rattle.sql_tables.proofs.Values.{cast_int}
 use Rattle.journal_store.specs.Connections.{AreNumbered, Shows}
-use Rattle.journal_store.specs.Format.{Form, entry_place, entry_tables, entry_tree, journal_schema, places, table_of, third_groups, third_users}
+use Rattle.journal_store.specs.Format.{Form, entry_place, entry_tables, entry_tree, journal_schema, third_groups, third_users}
+use Rattle.journal_store.specs.Tables.{places, table_of}
 use Rattle.journal_store.specs.Resets.{ResetsOne, kept_count, none_values, reset_row, reset_text}
 use Rattle.journal_store.specs.Rows.{IsReadable, entry_in, shown_row}
 use Rattle.journal_store.proofs.Loading.{map_has, permuted}

@@ -28,7 +28,8 @@ use Rattle.scim_key.specs.declared.records.RecordName.{RecordName}
 use Rattle.source_csv.specs.Records.{row_name}
 use Rattle.journal_core.specs.declared.entries.Entry.{Entry}
 use Rattle.journal_store.specs.Connections.{AreNumbered, HasNumbers, IsThere, has_key}
-use Rattle.journal_store.specs.Format.{Form, entry_tree, journal_schema, key_places, table_of, third_groups, third_users}
+use Rattle.journal_store.specs.Format.{Form, entry_tree, journal_schema, third_groups, third_users}
+use Rattle.journal_store.specs.Tables.{key_places, table_of}
 use Rattle.journal_store.specs.Rows.{entries_in, entry_in, shown_row}
 use Rattle.journal_store.proofs.Putting.{not_true, numbered_one, numbers_of}
 use Rattle.journal_store.proofs.Standing.{has_own_key, stands_some}

@@ -20,7 +20,7 @@ use Rattle.journal_core.specs.Entries.{named}
 use Rattle.journal_core.specs.declared.entries.Entry.{Entry}
 use Rattle.journal_core.proofs.Trees.{names_same}
 use Rattle.journal_store.specs.Format.{entry_tree}
-use Rattle.journal_store.specs.Rows.{entries_by, entries_in, entry_in, named_if, named_by, named_in, shown_row}
+use Rattle.journal_store.specs.Rows.{entries_by, entries_in, entry_in, named_by, named_if, named_in, shown_row}
 use Rattle.journal_store.specs.Connections.{has_key}
 use Rattle.journal_store.proofs.Decoding.{key_from, shown_key}
 use Rattle.journal_store.proofs.Values.{key_test}

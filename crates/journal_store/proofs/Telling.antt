@@ -12,7 +12,8 @@ use Rattle.source_csv.specs.Records.{row_name}
 use Rattle.source_csv.specs.declared.rows.Row as source
 use Rattle.source_csv.specs.declared.texts.TheConstants.{TEXT_FIELD_COUNT}
 use Rattle.journal_core.specs.declared.entries.Entry.{Entry}
-use Rattle.journal_store.specs.Format.{entry_tables, places}
+use Rattle.journal_store.specs.Format.{entry_tables}
+use Rattle.journal_store.specs.Tables.{places}
 use Rattle.journal_store.specs.Resets.{kept_count}
 use Rattle.journal_store.specs.Rows.{confirmed_in, entry_by, entry_in, epoch_value, fields_in, group_in, id_in, id_value, keyed, revision_value, text_columns, text_in, texts_in, texts_of, user_in}
 use Rattle.journal_store.proofs.Casting.{columns_kept, some_then}

@@ -16,7 +16,8 @@ use Rattle.scim_key.specs.declared.records.Kind.TheVariants.{User, Group}
 use Rattle.sql_tables.proofs.Queries.{IsSelect, query}
 use Rattle.sql_tables.proofs.Editing.{IsWrite}
 use Rattle.sql_tables.proofs.Marking.{marked_shown}
-use Rattle.journal_store.specs.Format.{journal_schema, column_count, entry_tables, places, entry_tree, entry_place, find_text, all_text, insert_text, update_text, marked_text, numbers_text}
+use Rattle.journal_store.specs.Format.{all_text, column_count, entry_place, entry_tables, entry_tree, find_text, insert_text, journal_schema, marked_text, numbers_text, update_text}
+use Rattle.journal_store.specs.Tables.{places}
 use Rattle.sql_tables.specs.Layouts.{format_tree}
 
 abbrev pub key_is : Term

@@ -10,7 +10,8 @@ use Rattle.sql_tables.specs.Layouts.{format_table, format_tree}
 use Rattle.sql_tables.specs.Statements.{IsGiven}
 use Rattle.sql_tables.proofs.Marking.{marked_shown}
 use Rattle.sql_tables.proofs.Queries.{IsSelect, given_by, query}
-use Rattle.journal_store.specs.Format.{MarkedForm, format_name, marked_schema, marked_text}
+use Rattle.journal_store.specs.Format.{MarkedForm, marked_schema, marked_text}
+use Rattle.journal_store.specs.Tables.{format_name}
 use Rattle.journal_store.specs.Opening.{HasFormatTable}
 
 pub unknown_marked_is : IsSelect marked_schema marked_text format_tree [] marked_shown [] (codes "number" ∷ []) 0

@@ -10,7 +10,7 @@ use Rattle.sqlite_value.specs.declared.value.Value.TheVariants.{Null, Int, Real,
 use Rattle.sqlite_value.specs.Order.{Row}
 use Rattle.source_csv.specs.Rows.{UserFields, text_of}
 use Rattle.source_csv.specs.declared.texts.TheConstants.{TEXT_FIELD_COUNT}
-use Rattle.journal_store.specs.Format.{places}
+use Rattle.journal_store.specs.Tables.{places}
 use Rattle.journal_store.specs.declared.format.TheConstants.{TEXT_ORDER}
 use Rattle.journal_store.specs.Rows.{IsReadable, all_texts, text_columns, text_in, texts_in}
 

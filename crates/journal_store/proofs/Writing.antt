@@ -21,7 +21,8 @@ use Rattle.source_csv.specs.Records.{row_name}
 use Rattle.source_csv.specs.Rows.{GroupFields, UserFields}
 use Rattle.source_csv.specs.declared.rows.Row.TheVariants as source
 use Rattle.sqlite_rules.specs.Cast.{cast_all}
-use Rattle.journal_store.specs.Format.{Form, journal_schema, table_of, third_groups, third_users}
+use Rattle.journal_store.specs.Format.{Form, journal_schema, third_groups, third_users}
+use Rattle.journal_store.specs.Tables.{table_of}
 use Rattle.sql_tables.specs.Statements.{plain_mode}
 use Rattle.sql_tables.proofs.Queries.{query}
 use Rattle.sql_tables.proofs.Values.{cast_int, cast_null}

@@ -16,7 +16,7 @@ use Rattle.source_csv.specs.Rows.{GroupFields}
 use Rattle.source_csv.specs.declared.rows.Row as source
 use Rattle.source_csv.specs.declared.rows.Row.TheVariants.{User, Group}
 use Rattle.journal_core.specs.declared.entries.Entry.{Entry}
-use Rattle.journal_store.specs.Format.{journal_schema, entry_place, entry_tree}
+use Rattle.journal_store.specs.Format.{entry_place, entry_tree, journal_schema}
 use Rattle.sql_tables.specs.Statements.{IsEdit, IsEditText, Ran, plain_mode}
 use Rattle.sql_tables.proofs.Queries.{query}
 use Rattle.journal_store.specs.Rows.{epoch_value, id_value, members_text, revision_value, row_by, row_of}

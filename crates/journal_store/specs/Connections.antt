@@ -23,7 +23,7 @@ use Rattle.journal_core.specs.declared.entries.Entry.{Entry}
 use Rattle.sql_tables.specs.Layouts.{IsLaid as IsLaidBy}
 use Rattle.sqlite_schema.specs.declared.schema.Schema.{Schema}
 use Rattle.sql_tables.specs.Statements.{IsEditText as IsEditOf}
-use Rattle.journal_store.specs.Format.{journal_schema, entry_tree, insert_text, update_text}
+use Rattle.journal_store.specs.Format.{entry_tree, insert_text, journal_schema, update_text}
 use Rattle.journal_store.specs.Rows.{IsLawfulId, IsReadable, confirmed_in, entry_in, id_in, row_of, shown_row, source_in, texts_of}
 
 -- ---- the tables of a connection

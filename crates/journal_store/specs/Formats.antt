@@ -3,8 +3,8 @@ use Rattle.std.specs.Prelude.{ℕ}
 use Rattle.sqlite_value.specs.Order.{Row}
 use Rattle.sqlite_schema.specs.declared.schema.Schema.{Schema}
 use Rattle.scim_key.specs.declared.records.Kind.{Kind}
-use Rattle.journal_store.specs.Format.{FirstForm, Form, SecondForm, entry_tree, first_number, first_schema, first_tree, format_number, journal_schema, second_number, second_schema, second_tree}
-use Rattle.journal_store.specs.Rows.{first_row, second_row, shown_row}
+use Rattle.journal_store.specs.Format.{Form, entry_tree, format_number, journal_schema}
+use Rattle.journal_store.specs.Rows.{shown_row}
 
 -- a format: the layout of its tables, its number, the tree of each type's table, and the columns that its query shows
 -- of a row
@@ -14,17 +14,3 @@ FormatData = record { form : Type 0; layout : form → Schema; number : ℕ; tre
 abbrev pub current_format : FormatData
 current_format =
     record { form = Form; layout = journal_schema; number = format_number; tree = entry_tree; columns = shown_row }
-
-abbrev pub second_format : FormatData
-second_format =
-    record {
-      form = SecondForm;
-      layout = second_schema;
-      number = second_number;
-      tree = second_tree;
-      columns = second_row;
-    }
-
-abbrev pub first_format : FormatData
-first_format =
-    record { form = FirstForm; layout = first_schema; number = first_number; tree = first_tree; columns = first_row }

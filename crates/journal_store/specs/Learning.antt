@@ -7,7 +7,8 @@ use Rattle.scim_key.specs.Revisions.{RevisionValue}
 use Rattle.scim_key.specs.declared.records.Kind.{Kind}
 use Rattle.scim_key.specs.declared.records.Kind.TheVariants.{User, Group}
 use Rattle.scim_key.specs.declared.records.RecordName.{RecordName}
-use Rattle.journal_store.specs.Format.{entry_tree, places}
+use Rattle.journal_store.specs.Format.{entry_tree}
+use Rattle.journal_store.specs.Tables.{places}
 use Rattle.journal_store.specs.Rows.{epoch_value, revision_value}
 use Rattle.journal_store.specs.Connections.{has_key}
 use Rattle.journal_store.specs.Resets.{kept_count}

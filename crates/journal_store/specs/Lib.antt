@@ -1,3 +1,5 @@
+pub mod Tables
+pub mod Older
 pub mod Format
 pub mod Rows
 pub mod Formats
@@ -10,4 +12,3 @@ pub mod Calls
 pub mod KeptLaws
 pub mod Resets
 pub mod Learning
-pub mod Carrying

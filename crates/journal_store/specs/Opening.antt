@@ -23,9 +23,14 @@ use Rattle.journal_core.specs.Entries.{EntryMap, most_records}
 use Rattle.journal_core.specs.declared.entries.Entry.{Entry}
 use Rattle.journal_core.specs.declared.journals.JournalFault.{JournalFault}
 use Rattle.journal_core.specs.declared.journals.JournalFault.TheVariants as journal
-use Rattle.journal_store.specs.Format.{EntryTable, first_schema, format_number, index_of, journal_schema, key_places}
-use Rattle.journal_store.specs.Format.{marked_schema, second_schema, second_tree, table_of}
-use Rattle.journal_store.specs.Formats.{FormatData, current_format, first_format, second_format}
+use Rattle.journal_store.specs.Tables.{EntryTable, index_of, key_places}
+use Rattle.journal_store.specs.Older.Format.{first_schema}
+use Rattle.journal_store.specs.Format.{format_number, journal_schema}
+use Rattle.journal_store.specs.Format.{marked_schema}
+use Rattle.journal_store.specs.Older.Format.{second_schema, second_tree}
+use Rattle.journal_store.specs.Tables.{table_of}
+use Rattle.journal_store.specs.Formats.{FormatData, current_format}
+use Rattle.journal_store.specs.Older.Formats.{first_format, second_format}
 use Rattle.sql_tables.specs.Layouts.{IsBlank, IsFormat, format_tree, IsLaid as IsLaidBy, IsOne, IsPlainTable, no_schema}
 use Rattle.sql_tables.specs.Faults.{HasFailed}
 use Rattle.journal_store.specs.Rows.{entries_by, entries_in}

@@ -12,7 +12,8 @@ use Rattle.scim_key.specs.declared.records.RecordName.{RecordName}
 use Rattle.journal_core.specs.Entries.{EntryMap, IsListOf}
 use Rattle.journal_core.specs.Forgetting.{forgotten, unlearnt}
 use Rattle.journal_core.specs.declared.entries.Entry.{Entry}
-use Rattle.journal_store.specs.Format.{column_count, entry_tree, places}
+use Rattle.journal_store.specs.Format.{column_count, entry_tree}
+use Rattle.journal_store.specs.Tables.{places}
 use Rattle.journal_store.specs.Rows.{epoch_value, revision_value}
 use Rattle.journal_store.specs.Connections.{AreNumbered, ListsAll}
 use Rattle.journal_store.specs.Opening.{AreLawful}

@@ -22,7 +22,8 @@ use Rattle.source_csv.specs.declared.rows.Row.TheVariants.{User, Group}
 use Rattle.source_csv.specs.declared.texts.TheConstants.{TEXT_FIELD_COUNT}
 use Rattle.journal_core.specs.Entries.{EntryMap, named}
 use Rattle.journal_core.specs.declared.entries.Entry.{Entry}
-use Rattle.journal_store.specs.Format.{column_count, entry_tree, places, second_count}
+use Rattle.journal_store.specs.Format.{column_count, entry_tree}
+use Rattle.journal_store.specs.Tables.{places}
 use Rattle.journal_store.specs.declared.format.TheConstants.{TEXT_ORDER}
 
 -- ---- how an entry is written
@@ -200,19 +201,6 @@ IsLawfulId (Some id) = IsId id × IsUtf8 id
 -- the columns of a row that the queries show: all but its number
 abbrev pub shown_row : Kind → Row → Row
 shown_row type r = columns_at (places 1 (column_count type)) r
-
--- the epochs that the queries of the older formats show
-abbrev pub no_epochs : Row
-no_epochs = Int (pos 0) ∷ Int (pos 0) ∷ []
-
--- the columns of a row of the second format, as the queries show them: the epochs of its revisions are 0
-abbrev pub second_row : Kind → Row → Row
-second_row type r = columns_at (places 1 (second_count type)) r ++ no_epochs
-
--- the columns of a row of the first format, as the queries show them: a user also has an empty department
-abbrev pub first_row : Kind → Row → Row
-first_row kind.User r = columns_at (places 1 7) r ++ Text [] ∷ columns_at (places 8 3) r ++ no_epochs
-first_row kind.Group r = second_row kind.Group r
 
 abbrev pub named_if : Option Entry → List (RecordName × Entry)
 named_if None = []

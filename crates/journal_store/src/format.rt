@@ -1,8 +1,10 @@
-//! The formats of a journal: their numbers, their tables, and the check of a schema at run time.
+//! The format of a journal: its number, its tables, and the check of a schema at run time.
 ghost use Rattle.std.specs.Prelude.{◌≡◌, ◌<◌, [], ◌∷◌, IsTrue, map};
-ghost use Rattle.journal_store.specs.Format.{column_of, first_groups, first_users, key_places, keyed_index, second_users, third_groups, third_users};
-ghost use Rattle.journal_store.specs.Opening.{IsEntryTable, IsFirst, IsJournal, HasFormatTable, IsKeyed, IsKeyedTable, IsSecond};
+ghost use Rattle.journal_store.specs.Tables.{column_of, key_places, keyed_index};
+ghost use Rattle.journal_store.specs.Format.{third_groups, third_users};
+ghost use Rattle.journal_store.specs.Opening.{IsEntryTable, IsJournal, HasFormatTable, IsKeyed, IsKeyedTable};
 
+use crate::older::format::{is_first_groups, is_first_users, is_second_users};
 use source_csv::{TEXT_FIELD_COUNT, TextField};
 use sql_tables::{Layout, has_order, is_column, is_format, is_plain};
 use sqlite_schema::schema::{Column, Index, Kind, Schema, Table};
@@ -10,14 +12,8 @@ use sqlite_schema::schema::{Column, Index, Kind, Schema, Table};
 /// The number of the format that is written.
 pub(crate) const FORMAT: u64 = 3;
 
-/// The number of the second format, from which a journal is carried over.
-pub(crate) const SECOND_FORMAT: u64 = 2;
-
-/// The number of the first format, from which a journal is carried over to the second.
-pub(crate) const FIRST_FORMAT: u64 = 1;
-
 /// A column of a table of entries: its name, its type, and whether it may not be NULL.
-type EntryColumn = (&'static str, Kind, bool);
+pub(crate) type EntryColumn = (&'static str, Kind, bool);
 
 /// The columns of the table of users.
 const USER_COLUMNS: [EntryColumn; 8 + TEXT_FIELD_COUNT] = [
@@ -48,45 +44,6 @@ const GROUP_COLUMNS: [EntryColumn; 8] = [
     ("confirmed_epoch", Kind::Integer, true),
 ];
 
-/// The columns of the table of users of the second format.
-const SECOND_USER_COLUMNS: [EntryColumn; 6 + TEXT_FIELD_COUNT] = [
-    ("name_key", Kind::Text, true),
-    ("login", Kind::Text, true),
-    ("revision", Kind::Integer, true),
-    ("number", Kind::Text, true),
-    ("given", Kind::Text, true),
-    ("family", Kind::Text, true),
-    ("mail", Kind::Text, true),
-    ("department", Kind::Text, true),
-    ("active", Kind::Integer, true),
-    ("confirmed", Kind::Integer, true),
-    ("id", Kind::Text, false),
-];
-
-/// The columns of the table of users of the first format.
-const FIRST_USER_COLUMNS: [EntryColumn; 10] = [
-    ("name_key", Kind::Text, true),
-    ("login", Kind::Text, true),
-    ("revision", Kind::Integer, true),
-    ("number", Kind::Text, true),
-    ("given", Kind::Text, true),
-    ("family", Kind::Text, true),
-    ("mail", Kind::Text, true),
-    ("active", Kind::Integer, true),
-    ("confirmed", Kind::Integer, true),
-    ("id", Kind::Text, false),
-];
-
-/// The columns of the table of groups of both these formats.
-const FIRST_GROUP_COLUMNS: [EntryColumn; 6] = [
-    ("name_key", Kind::Text, true),
-    ("name", Kind::Text, true),
-    ("revision", Kind::Integer, true),
-    ("members", Kind::Text, true),
-    ("confirmed", Kind::Integer, true),
-    ("id", Kind::Text, false),
-];
-
 /// The texts of a user, in the order of their columns.
 pub(crate) const TEXT_ORDER: [TextField; TEXT_FIELD_COUNT] = [
     TextField::Number,
@@ -105,28 +62,6 @@ impl Layout for Journal {
     ghost form = { Form };
 
     ghost layout = { journal_schema };
-}
-
-/// The tables of the second format.
-pub(crate) struct Second;
-
-impl Layout for Second {
-    ghost use Rattle.journal_store.specs.Format.{SecondForm, second_schema};
-
-    ghost form = { SecondForm };
-
-    ghost layout = { second_schema };
-}
-
-/// The tables of the first format.
-pub(crate) struct First;
-
-impl Layout for First {
-    ghost use Rattle.journal_store.specs.Format.{FirstForm, first_schema};
-
-    ghost form = { FirstForm };
-
-    ghost layout = { first_schema };
 }
 
 /// The table of the format, and any tables after it: those of a format that isn't known.
@@ -168,41 +103,6 @@ pub(crate) fn is_journal(schema: &Schema) -> bool
         && is_groups(groups, group_keys)
 }
 
-/// Whether the tables are those of the second format.
-pub(crate) fn is_second(schema: &Schema) -> bool
-    ensures is { IsTrue result → IsSecond schema.now }
-    ensures known { IsSecond schema.now → IsTrue result }
-{
-    let [format, firsts, groups, users] = schema.tables.as_slice() else {
-        return false;
-    };
-    let [first_keys, group_keys, user_keys] = schema.indexes.as_slice() else {
-        return false;
-    };
-    schema.views.is_empty()
-        && is_format(format, b"journal_format")
-        && is_first_users(firsts, first_keys)
-        && is_first_groups(groups, group_keys)
-        && is_second_users(users, user_keys)
-}
-
-/// Whether the tables are those of the first format.
-pub(crate) fn is_first(schema: &Schema) -> bool
-    ensures is { IsTrue result → IsFirst schema.now }
-    ensures known { IsFirst schema.now → IsTrue result }
-{
-    let [format, users, groups] = schema.tables.as_slice() else {
-        return false;
-    };
-    let [user_keys, group_keys] = schema.indexes.as_slice() else {
-        return false;
-    };
-    schema.views.is_empty()
-        && is_format(format, b"journal_format")
-        && is_first_users(users, user_keys)
-        && is_first_groups(groups, group_keys)
-}
-
 /// Whether the first table is that of the format.
 pub(crate) fn has_format_table(schema: &Schema) -> bool
     ensures is { IsTrue result → HasFormatTable schema.now }
@@ -232,35 +132,8 @@ fn is_groups(table: &Table, keys: &Index) -> bool
         && has_order(table, keys)
 }
 
-fn is_second_users(table: &Table, keys: &Index) -> bool
-    ensures is { IsTrue result → IsKeyedTable second_users table.now keys.now }
-    ensures known { IsKeyedTable second_users table.now keys.now → IsTrue result }
-{
-    is_table(b"user_entry_2", 5, &SECOND_USER_COLUMNS, table)
-        && is_key_index(b"sqlite_autoindex_user_entry_2_1", 5, keys)
-        && has_order(table, keys)
-}
-
-fn is_first_users(table: &Table, keys: &Index) -> bool
-    ensures is { IsTrue result → IsKeyedTable first_users table.now keys.now }
-    ensures known { IsKeyedTable first_users table.now keys.now → IsTrue result }
-{
-    is_table(b"user_entry", 1, &FIRST_USER_COLUMNS, table)
-        && is_key_index(b"sqlite_autoindex_user_entry_1", 1, keys)
-        && has_order(table, keys)
-}
-
-fn is_first_groups(table: &Table, keys: &Index) -> bool
-    ensures is { IsTrue result → IsKeyedTable first_groups table.now keys.now }
-    ensures known { IsKeyedTable first_groups table.now keys.now → IsTrue result }
-{
-    is_table(b"group_entry", 3, &FIRST_GROUP_COLUMNS, table)
-        && is_key_index(b"sqlite_autoindex_group_entry_1", 3, keys)
-        && has_order(table, keys)
-}
-
 /// Whether the table of entries has this name, this tree and these columns.
-fn is_table(name: &[u8], tree: u32, columns: &[EntryColumn], table: &Table) -> bool
+pub(crate) fn is_table(name: &[u8], tree: u32, columns: &[EntryColumn], table: &Table) -> bool
     ensures is { IsTrue result → IsEntryTable name.now tree (map column_of columns.now) table.now }
     ensures known { IsEntryTable name.now tree (map column_of columns.now) table.now
         → IsTrue result }
@@ -312,7 +185,7 @@ fn has_unique(table: &Table) -> bool
 }
 
 /// Whether the index is that of the keys of the table in this tree.
-fn is_key_index(name: &[u8], tree: u32, index: &Index) -> bool
+pub(crate) fn is_key_index(name: &[u8], tree: u32, index: &Index) -> bool
     requires { tree < 10 }
     ensures is { IsTrue result → index.now ≡ keyed_index name.now tree index.now.order }
     ensures known { index.now ≡ keyed_index name.now tree index.now.order → IsTrue result }

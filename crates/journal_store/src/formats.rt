@@ -8,14 +8,8 @@ ghost use Rattle.sql_tables.specs.Statements.{IsGiven, IsQuery, ShowsFormat};
 ghost use Rattle.journal_store.specs.Connections.{Lists};
 ghost use Rattle.journal_store.specs.Format.{format_number};
 
-use crate::format::{
-    FIRST_FORMAT, FORMAT, First, Journal, SECOND_FORMAT, Second, Unknown, has_format_table,
-    is_first, is_journal, is_second,
-};
-use crate::tables::{
-    all_statement, first_all_statement, first_numbers_statement, marked_statement,
-    numbers_statement, second_all_statement, second_numbers_statement,
-};
+use crate::format::{FORMAT, Journal, Unknown, has_format_table, is_journal};
+use crate::tables::{all_statement, marked_statement, numbers_statement};
 use scim_key::Kind;
 use sql_tables::Layout;
 use sqlite_schema::schema::Schema;
@@ -37,26 +31,6 @@ pub(crate) trait Marked: Layout {
 impl Marked for Journal {
     fn is_laid_out(schema: &Schema) -> bool {
         is_journal(schema)
-    }
-
-    fn marked_statement() -> &'static str {
-        marked_statement()
-    }
-}
-
-impl Marked for Second {
-    fn is_laid_out(schema: &Schema) -> bool {
-        is_second(schema)
-    }
-
-    fn marked_statement() -> &'static str {
-        marked_statement()
-    }
-}
-
-impl Marked for First {
-    fn is_laid_out(schema: &Schema) -> bool {
-        is_first(schema)
     }
 
     fn marked_statement() -> &'static str {
@@ -121,51 +95,5 @@ impl Format for Journal {
 
     fn list_statement(kind: Kind) -> &'static str {
         all_statement(kind)
-    }
-}
-
-impl Format for Second {
-    ghost use Rattle.journal_store.specs.Format.{second_number, second_tree};
-    ghost use Rattle.journal_store.specs.Rows.{second_row};
-
-    ghost number = { second_number };
-
-    ghost tree = { second_tree };
-
-    ghost columns = { second_row };
-
-    fn number() -> u64 {
-        SECOND_FORMAT
-    }
-
-    fn numbers_statement(kind: Kind) -> &'static str {
-        second_numbers_statement(kind)
-    }
-
-    fn list_statement(kind: Kind) -> &'static str {
-        second_all_statement(kind)
-    }
-}
-
-impl Format for First {
-    ghost use Rattle.journal_store.specs.Format.{first_number, first_tree};
-    ghost use Rattle.journal_store.specs.Rows.{first_row};
-
-    ghost number = { first_number };
-
-    ghost tree = { first_tree };
-
-    ghost columns = { first_row };
-
-    fn number() -> u64 {
-        FIRST_FORMAT
-    }
-
-    fn numbers_statement(kind: Kind) -> &'static str {
-        first_numbers_statement(kind)
-    }
-
-    fn list_statement(kind: Kind) -> &'static str {
-        first_all_statement(kind)
     }
 }

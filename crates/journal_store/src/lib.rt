@@ -9,6 +9,7 @@ mod journal;
 mod lawful;
 mod learning;
 mod making;
+mod older;
 mod opening;
 mod resets;
 mod statements;

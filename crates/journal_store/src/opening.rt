@@ -1,5 +1,5 @@
 //! Opens a store: makes its tables, or checks them and each of their rows, and carries an older format over.
-ghost use Rattle.std.specs.Prelude.{◌≡◌, ◌⊎◌, ◌<◌, ◌≤◌, ℕ, false, IfErr, IfOk, MatchOption, OnErr, OnOk, IsTrue};
+ghost use Rattle.std.specs.Prelude.{◌≡◌, ◌⊎◌, ◌<◌, ℕ, false, IfErr, IfOk, MatchOption, OnErr, OnOk, IsTrue};
 ghost use Rattle.std.specs.Ordering.{int_cmp, is_lt};
 ghost use Rattle.std.specs.declared.cmp.Ordering.TheVariants.{Less};
 ghost use Rattle.journal_core.specs.Entries.{EntryMap};
@@ -11,10 +11,12 @@ ghost use Rattle.sql_tables.specs.Layouts.{IsFormat, IsLaid as IsLaidBy, IsMark,
 ghost use Rattle.sql_tables.specs.Statements.{LeavesStore, Looks};
 ghost use Rattle.journal_store.specs.Opening.{AreRising, Becomes, HasFormatTable, HoldsEntriesBy, IsCarriedBy, IsCause, IsFor, IsNewer, IsNotLaidBy, IsOfRows, IsOlder, IsSpoiltBy, IsStore, IsStoreBy, IsUnmarkedBy, IsUnnumbered, LeavesCarriedBy, LeavesStanding, OpenFailsFor, OpeningFails, ShowsDamageBy};
 
-use crate::format::{FORMAT, First, Journal, Second, Unknown, is_first, is_journal, is_second};
+use crate::format::{FORMAT, Journal, Unknown, is_journal};
 use crate::formats::{Format, Marked};
 use crate::lawful::check_lists;
-use crate::making::{Older, carry, make_tables};
+use crate::making::make_tables;
+use crate::older::carrying::{Older, carry};
+use crate::older::format::{First, Second, is_first, is_second};
 use crate::statements::TableFault;
 use crate::tables::list_entries;
 use scim_key::Kind;

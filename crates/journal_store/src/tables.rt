@@ -17,7 +17,7 @@ ghost use Rattle.sql_tables.specs.Statements.{Keeps};
 ghost use Rattle.sql_tables.specs.Faults.{HasFailed};
 ghost use Rattle.sql_tables.specs.Layouts.{IsLaid as IsLaidBy};
 ghost use Rattle.journal_store.specs.Faults.{FailsFor, HasCause, IsOfRow};
-ghost use Rattle.journal_store.specs.Format.{all_text, find_text, first_all_text, first_numbers_text, marked_text, numbers_text, second_all_text, second_numbers_text};
+ghost use Rattle.journal_store.specs.Format.{all_text, find_text, marked_text, numbers_text};
 ghost use Rattle.journal_store.specs.declared.format.TheConstants.{TEXT_ORDER};
 ghost use Rattle.journal_store.specs.Rows.{active_number, epoch_value, id_value, members_text, revision_value, row_by};
 
@@ -258,50 +258,6 @@ pub(crate) fn all_statement(kind: Kind) -> &'static str
         Kind::Group => {
             "SELECT name_key, name, revision, members, confirmed, id, epoch, confirmed_epoch FROM group_entry_3 ORDER BY name_key"
         }
-    }
-}
-
-// ---- all entries of the older formats
-
-pub(crate) fn second_numbers_statement(kind: Kind) -> &'static str
-    ensures { result.now ≡ second_numbers_text kind }
-{
-    match kind {
-        Kind::User => "SELECT rowid FROM user_entry_2 ORDER BY rowid",
-        Kind::Group => "SELECT rowid FROM group_entry ORDER BY rowid",
-    }
-}
-
-pub(crate) fn second_all_statement(kind: Kind) -> &'static str
-    ensures { result.now ≡ second_all_text kind }
-{
-    match kind {
-        Kind::User => {
-            "SELECT name_key, login, revision, number, given, family, mail, department, active, confirmed, id, 0, 0 FROM user_entry_2 ORDER BY name_key"
-        }
-        Kind::Group => {
-            "SELECT name_key, name, revision, members, confirmed, id, 0, 0 FROM group_entry ORDER BY name_key"
-        }
-    }
-}
-
-pub(crate) fn first_numbers_statement(kind: Kind) -> &'static str
-    ensures { result.now ≡ first_numbers_text kind }
-{
-    match kind {
-        Kind::User => "SELECT rowid FROM user_entry ORDER BY rowid",
-        Kind::Group => second_numbers_statement(Kind::Group),
-    }
-}
-
-pub(crate) fn first_all_statement(kind: Kind) -> &'static str
-    ensures { result.now ≡ first_all_text kind }
-{
-    match kind {
-        Kind::User => {
-            "SELECT name_key, login, revision, number, given, family, mail, '', active, confirmed, id, 0, 0 FROM user_entry ORDER BY name_key"
-        }
-        Kind::Group => second_all_statement(Kind::Group),
     }
 }
 

@@ -45,10 +45,10 @@ fn done(rt: &HostRuntime) -> Result<Status, CommandFault> {
 fn over_files(rt: &HostRuntime, matches: &ArgMatches<'_>) -> Result<Status, CommandFault> {
     let (command, words) = matches.subcommand().ok_or(CommandFault::Subcommand)?;
     let store = store(words).map(|path| StoreFile {
-        file: DatabaseFile { rt, path },
+        file: DatabaseFile::new(rt, path),
     });
     let journal = journal(words).map(|path| JournalFile {
-        file: DatabaseFile { rt, path },
+        file: DatabaseFile::new(rt, path),
     });
     Ok(ended(rt, command, words, store.as_ref(), journal.as_ref()))
 }

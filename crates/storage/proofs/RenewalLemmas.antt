@@ -14,7 +14,8 @@ use Rattle.sqlite.specs.State.{IsLive}
 use Rattle.sql_tables.specs.Layouts.{no_schema}
 use Rattle.journal_core.specs.Entries.{EntryMap}
 use Rattle.journal_store.specs.Connections.{IsLaid}
-use Rattle.journal_store.specs.Format.{first_schema, journal_schema, second_schema}
+use Rattle.journal_store.specs.Older.Format.{first_schema, second_schema}
+use Rattle.journal_store.specs.Format.{journal_schema}
 use Rattle.journal_store.specs.Opening.{Stands}
 use Rattle.journal_store.specs.Rows.{entries_in}
 use Rattle.storage.specs.Closed.{IsRenewed}

@@ -4,6 +4,7 @@ use Rattle.sqlite_disk.specs.declared.Disk as disk
 use Rattle.sqlite_disk.specs.declared.Files.{Files}
 use Rattle.sqlite_store.specs.declared.store.FileStore.{FileStore}
 use Rattle.sqlite_trees.specs.declared.store.Store as store
+use Rattle.sqlite.specs.declared.error.Error.{Error}
 use Rattle.sqlite.specs.declared.file.Leftover.{Leftover}
 use Rattle.sqlite.specs.Files.{Finds, file_state}
 use Rattle.sqlite.specs.Held.{Held, state}
@@ -42,8 +43,8 @@ module _ {D : Type 0} {g : disk.Ghosts D} where
   LooksAt files (Some journal) = LeavesAsFound files journal.conn
 
   -- if an older format is the fault, the files have its tables
-  abbrev pub LooksOlder : Files D → LookFault → Result (Held (FileStore D g)) (Leftover D g) → Type 0
+  abbrev pub LooksOlder : Files D → LookFault → Result (Held (FileStore D g)) (Error × Leftover D g) → Type 0
   LooksOlder files Older (Ok left) = HasCleanDisk (file_state left) → Finds files left
       × IsOlder (file_state left).now.schema
-  LooksOlder files Older (Err left) = ⊥
+  LooksOlder files Older (Err refused) = ⊥
   LooksOlder files (Refused fault) left = ⊤

@@ -3,6 +3,7 @@ use Rattle.std.specs.Prelude.{◌≡◌, ◌⊎◌, ◌<◌, List, Result, Ok, E
 use Rattle.sqlite_disk.specs.declared.Disk as disk
 use Rattle.sqlite_disk.specs.declared.Files.{Files}
 use Rattle.sqlite_store.specs.declared.store.FileStore.{FileStore}
+use Rattle.sqlite.specs.declared.error.Error.{Error}
 use Rattle.sqlite.specs.declared.file.Leftover.{Leftover}
 use Rattle.sqlite.specs.Files.{Finds, IsCleanLeft, IsOpened as IsConnected, LeavesFiles, file_state}
 use Rattle.sqlite.specs.Held.{Held}
@@ -43,8 +44,8 @@ pub record KeepsRows {D : Type 0} {g : disk.Ghosts D} (files : Files D) (left : 
   pub kept : LeavesStore (file_state conn) (file_state left)
   pub stop : Survives (file_state conn) (file_state left) LeavesNone
 
--- what is left of files that were refused: a connection, or files that weren't connected to
+-- what is left of files that were refused: a connection, or why there is none, and what became of the files
 abbrev pub LeavesRows : {D : Type 0} {g : disk.Ghosts D}
-    → Files D → Result (Held (FileStore D g)) (Leftover D g) → Type 0
+    → Files D → Result (Held (FileStore D g)) (Error × Leftover D g) → Type 0
 LeavesRows files (Ok left) = HasCleanDisk (file_state left) → KeepsRows files left
-LeavesRows files (Err left) = IsCleanLeft left → LeavesFiles files left
+LeavesRows files (Err refused) = IsCleanLeft refused.1 → LeavesFiles files refused.1

@@ -7,9 +7,10 @@ ghost use Rattle.sqlite.specs.State.{HasCleanDisk};
 ghost use Rattle.sqlite_wal.specs.Reads.{AreClean};
 ghost use Rattle.storage.specs.Closed.{IsRenewed};
 
-use crate::reason::{DatabaseReason, code_of, failure_of};
+use crate::reason::{DatabaseReason, code_of, failure_at, failure_of, failure_since};
 use sqlite::{Connection, Error, ErrorCode, File, FileStore, Files, Leftover, Options, Unknown};
-use sqlite_disk::{Disk, Tally};
+use sqlite_disk::Disk;
+use std::cell::Cell;
 use std::fs;
 use std::fs::OpenOptions;
 use std::hash::{BuildHasher, RandomState};
@@ -20,14 +21,34 @@ use std::rt::HostRuntime;
 /// How many pages of a file a connection keeps in memory: 2 MB of pages of 4,096 bytes.
 const CACHE_PAGES: usize = 512;
 
-/// A database file of SQLite. Its log is `path` with `-wal` at its end.
+/// How the last opening of a file ended.
 #[derive(Clone, Copy)]
+pub(crate) enum Opening {
+    /// It wasn't opened, or it was refused: why, if that is known.
+    Refused(Option<DatabaseReason>),
+    /// It was opened to be read alone.
+    Looked,
+    Done,
+}
+
+/// A database file of SQLite. Its log is `path` with `-wal` at its end.
+#[derive(Drop)]
 pub struct DatabaseFile<'a> {
-    pub rt: &'a HostRuntime,
-    pub path: &'a str,
+    pub(crate) rt: &'a HostRuntime,
+    pub(crate) path: &'a str,
+    last: Cell<Opening>,
 }
 
 impl<'a> DatabaseFile<'a> {
+    /// The file at this path, which isn't opened yet.
+    pub fn new(rt: &'a HostRuntime, path: &'a str) -> DatabaseFile<'a> {
+        DatabaseFile {
+            rt,
+            path,
+            last: Cell::new(Opening::Refused(None)),
+        }
+    }
+
     /// Opens the file with its log, and makes them if they aren't there. That these are the files at the path, and
     /// that no other call touches them, is no clause: this call is trusted for it.
     pub(crate) fn open(&self) -> Result<Files<File>, Error>
@@ -35,9 +56,46 @@ impl<'a> DatabaseFile<'a> {
         ensures db { IfOk result (λ files. IsTrue (⟦<File as Disk>⟧.is_usable files.db)) }
         ensures fresh { IfOk result (λ files. IsFresh true files.log × IsFresh false files.db) }
     {
+        self.keep(Opening::Refused(None));
         match self.files() {
             Ok(files) => Ok(files),
-            Err(reason) => Err(Error::SqliteFailure(code_of(reason))),
+            Err(reason) => {
+                self.keep(Opening::Refused(Some(reason)));
+                Err(Error::SqliteFailure(code_of(reason)))
+            }
+        }
+    }
+
+    /// Keeps how an opening ended.
+    pub(crate) fn keep(&self, opening: Opening) {
+        self.last.set(opening);
+    }
+
+    /// The fault of files that were refused. Why they were is kept; what is left of them is dropped.
+    pub(crate) fn refused<F, D: Disk + Drop>(&self, refused: (F, Remains<D>)) -> F
+        ensures { result ≡ refused.0 }
+    {
+        let (fault, left) = refused;
+        self.keep(Opening::Refused(reason_of(left)));
+        fault
+    }
+
+    /// Why the last opening was refused: what the system says of the file, or else what that opening met. After one
+    /// that wasn't, the file is opened once more to find out why it can't be used now; if it may be written, by this
+    /// statement, which leaves the tables as they are.
+    pub(crate) fn reason(&self, same: &str) -> Option<DatabaseReason> {
+        match self.last.get() {
+            Opening::Refused(reason) => self.refused_by_system().or(reason),
+            Opening::Looked => self.reason_by(None),
+            Opening::Done => self.reason_by(Some(same)),
+        }
+    }
+
+    /// Why the file can't be opened, or why it doesn't execute a statement.
+    fn reason_by(&self, statement: Option<&str>) -> Option<DatabaseReason> {
+        match self.open_again() {
+            Ok(conn) => failure_at(conn, statement),
+            Err(reason) => reason,
         }
     }
 
@@ -51,7 +109,7 @@ impl<'a> DatabaseFile<'a> {
 
     /// Opens the file once more, after a call failed and the file was closed; or says why that fails, if the
     /// system or the library says it.
-    pub fn open_again(&self) -> Result<Connection<FileStore<File>>, Option<DatabaseReason>> {
+    fn open_again(&self) -> Result<Connection<FileStore<File>>, Option<DatabaseReason>> {
         if let Some(reason) = self.refused_by_system() {
             return Err(Some(reason));
         }
@@ -109,8 +167,16 @@ fn make_private(rt: &HostRuntime, path: &str) {
         .open(rt, path);
 }
 
-/// What is left of files that were refused: a connection to them, or what became of them before there was one.
-pub(crate) type Remains<D> = Result<Connection<FileStore<D>>, Leftover<D>>;
+/// What is left of files that were refused: a connection to them, or why there is none, and what became of them.
+pub(crate) type Remains<D> = Result<Connection<FileStore<D>>, (Error, Leftover<D>)>;
+
+/// Why files were refused, by what is left of them. It makes no call on them.
+fn reason_of<D: Disk + Drop>(left: Remains<D>) -> Option<DatabaseReason> {
+    match left {
+        Ok(conn) => Some(failure_since(conn)),
+        Err((error, _left)) => failure_of(error),
+    }
+}
 
 /// The fault of a refusal. What it leaves is dropped.
 pub(crate) fn fault_of<F, L: Drop>(refused: (F, L)) -> F
@@ -118,13 +184,6 @@ pub(crate) fn fault_of<F, L: Drop>(refused: (F, L)) -> F
 {
     let (fault, _left) = refused;
     fault
-}
-
-/// The fault of files that were refused. What is left of them is dropped.
-pub(crate) fn fault_in<F, D: Disk + Drop>(refused: (F, Remains<D>)) -> F
-    ensures { result ≡ refused.0 }
-{
-    fault_of(refused)
 }
 
 /// Closes a connection, and connects to its files anew, which stay locked meanwhile. A connection keeps the memory
@@ -140,14 +199,12 @@ pub(crate) fn renewed<D: Disk + Drop>(
             Ok(again) => Ok(again),
             Err(refused) => Err(fault_of(refused)),
         },
-        Err((error, _tally)) => Err(error),
+        Err(error) => Err(error),
     }
 }
 
-/// Closes a connection. If this fails, its files are closed, and the tally says what their failed calls met.
-pub(crate) fn closed<D: Disk + Drop>(
-    conn: Connection<FileStore<D>>,
-) -> Result<Files<D>, (Error, Tally)>
+/// Closes a connection. If this fails, its files are closed.
+pub(crate) fn closed<D: Disk + Drop>(conn: Connection<FileStore<D>>) -> Result<Files<D>, Error>
     ensures log { IfOk result (λ files. IsTrue (D.Disk.is_usable files.log)) }
     ensures db { IfOk result (λ files. IsTrue (D.Disk.is_usable files.db)) }
     ensures copied { IfOk result
@@ -155,7 +212,7 @@ pub(crate) fn closed<D: Disk + Drop>(
 {
     match conn.close_files() {
         Ok(files) => Ok(files),
-        Err((error, store)) => Err((error, store.close().tally())),
+        Err(refused) => Err(fault_of(refused)),
     }
 }
 

@@ -4,23 +4,22 @@ ghost use Rattle.sqlite.specs.Held.{state};
 ghost use Rattle.sqlite.specs.State.{IsLive};
 ghost use Rattle.storage.specs.JournalOpened.{FindsEntries, IsOpened, IsOpenedAgain, IsOpenedAt, KeepsTables, LeavesEntries, OpensFrom};
 
-use crate::database::{DatabaseFile, Remains, connected, fault_in, fault_of, renewed};
+use crate::database::{DatabaseFile, Opening, Remains, connected, fault_of, renewed};
 use crate::entry_storage::{EntryStorage, StoredEntries};
 use crate::looking::{LookFault, seen_in};
-use crate::reason::{DatabaseReason, NO_TABLES, failure_in, failure_since};
+use crate::reason::DatabaseReason;
 use journal_core::{Journal, JournalFault};
 use journal_store::{JournalOpenFault, SqlJournal, is_older};
-use sql_tables::is_blank;
 use sqlite::{Alter, Connection, Error, File, FileStore};
 use sqlite_disk::{Disk, Files};
 use std::alloc::Global;
 use std::rt::HostRuntime;
 
 /// A statement that leaves the tables as they are.
-const SAME: [&str; 1] = ["UPDATE journal_format SET number = number"];
+const SAME: &str = "UPDATE journal_format SET number = number";
 
 /// A file that keeps the journal of a connector. Opening makes the file if there is none.
-#[derive(Clone, Copy)]
+#[derive(Drop)]
 pub struct JournalFile<'a> {
     pub file: DatabaseFile<'a>,
 }
@@ -37,8 +36,11 @@ impl<'a> EntryStorage for JournalFile<'a> {
     /// If the file is refused, it is closed unchanged.
     fn open(&self) -> Result<Self::Entries, JournalOpenFault> {
         match entries_in(self.file.rt, self.file.open()?) {
-            Ok((entries, is_carried)) => reopened_if(self.file.rt, is_carried, entries),
-            Err(refused) => Err(fault_in(refused)),
+            Ok((entries, is_carried)) => {
+                self.file.keep(Opening::Done);
+                reopened_if(&self.file, is_carried, entries)
+            }
+            Err(refused) => Err(self.file.refused(refused)),
         }
     }
 
@@ -48,16 +50,16 @@ impl<'a> EntryStorage for JournalFile<'a> {
             return Ok(None);
         }
         match seen_in(self.file.rt, self.file.open()?) {
-            Ok(seen) => Ok(seen),
-            Err(refused) => Err(fault_in(refused)),
+            Ok(seen) => {
+                self.file.keep(Opening::Looked);
+                Ok(seen)
+            }
+            Err(refused) => Err(self.file.refused(refused)),
         }
     }
 
     fn reason(&self) -> Option<DatabaseReason> {
-        match self.file.open_again() {
-            Ok(conn) => reason_in(self.file.rt.alloc(), conn),
-            Err(reason) => reason,
-        }
+        self.file.reason(SAME)
     }
 
     fn name(&self) -> &str {
@@ -96,7 +98,7 @@ fn entries_in<D: Disk + Drop>(
 {
     let conn = match connected(rt, files) {
         Ok(conn) => conn,
-        Err((error, left)) => return Err((JournalOpenFault::from(error), Err(left))),
+        Err(refused) => return Err((JournalOpenFault::from(refused.0), Err(refused))),
     };
     match journal_of(rt.alloc(), conn) {
         Ok(opened) => Ok(opened),
@@ -120,9 +122,10 @@ fn journal_of<S: Alter>(
     }
 }
 
-/// The journal; if it was carried over, its files are connected to anew.
+/// The journal; if it was carried over, its files are connected to anew. If that fails, nothing is written to find out
+/// why.
 fn reopened_if<D: Disk + Drop>(
-    rt: &HostRuntime,
+    file: &DatabaseFile<'_>,
     is_carried: bool,
     entries: SqlJournal<FileStore<D>>,
 ) -> Result<SqlJournal<FileStore<D>>, JournalOpenFault>
@@ -132,7 +135,8 @@ fn reopened_if<D: Disk + Drop>(
     if !is_carried {
         return Ok(entries);
     }
-    journal_again(rt.alloc(), renewed(rt, connection_of(entries))?)
+    file.keep(Opening::Looked);
+    journal_again(file.rt.alloc(), renewed(file.rt, connection_of(entries))?)
 }
 
 /// The connection of a journal.
@@ -155,35 +159,5 @@ fn journal_again<S: Alter + Drop>(
     match SqlJournal::open(alloc, conn) {
         Ok(again) => Ok(again),
         Err(refused) => Err(fault_of(refused)),
-    }
-}
-
-/// Why the entries of a file that was opened again can't be used.
-fn reason_in<D: Disk + Drop>(
-    alloc: Global,
-    conn: Connection<FileStore<D>>,
-) -> Option<DatabaseReason> {
-    match refusal(alloc, conn) {
-        Ok(reason) => reason,
-        Err(conn) => Some(failure_since(conn)),
-    }
-}
-
-/// Why the entries of a connection that was opened again can't be used: it opens them, and writes what is there. It
-/// makes no tables, and carries none over. If the store fails, the connection is handed back.
-fn refusal<S: Alter + Drop>(
-    alloc: Global,
-    conn: Connection<S>,
-) -> Result<Option<DatabaseReason>, Connection<S>> {
-    if is_blank(conn.schema()) {
-        return Ok(failure_in(conn, &NO_TABLES));
-    }
-    if is_older(&conn) {
-        return Ok(failure_in(conn, &SAME));
-    }
-    match SqlJournal::open(alloc, conn) {
-        Ok(entries) => Ok(failure_in(SqlJournal::close(entries), &SAME)),
-        Err((JournalOpenFault::Store, conn)) => Err(conn),
-        Err((_fault, _conn)) => Ok(None),
     }
 }

@@ -55,9 +55,9 @@ pub(crate) fn seen_in<D: Disk + Drop>(
 {
     let conn = match connected(rt, files) {
         Ok(conn) => conn,
-        Err((error, left)) => {
-            let fault = LookFault::Refused(JournalOpenFault::from(error));
-            return Err((fault, Err(left)));
+        Err(refused) => {
+            let fault = LookFault::Refused(JournalOpenFault::from(refused.0));
+            return Err((fault, Err(refused)));
         }
     };
     match seen_of(rt.alloc(), conn) {

@@ -1,18 +1,12 @@
 //! Why a database file can't be used.
-use crate::database::closed;
 use sqlite::{Alter, Connection, Error, ErrorCode, FileStore};
 use sqlite_disk::{Disk, Tally};
 use sqlite_std_file::OpenError;
 use std::io::{self, ErrorKind};
 use thiserror::Error as Fault;
 
-/// Statements that leave a database without tables as it is.
-pub(crate) const NO_TABLES: [&str; 4] = [
-    "BEGIN",
-    "CREATE TABLE reason (one)",
-    "DROP TABLE reason",
-    "COMMIT",
-];
+/// The number that Linux gives for a disk without room.
+const NO_ROOM: i32 = 28;
 
 /// Why a database file can't be used. Its text is what the system or the library says.
 #[derive(Clone, Copy, Debug, Fault)]
@@ -28,44 +22,55 @@ pub enum DatabaseReason {
     Failed(ErrorCode),
 }
 
-/// Why a database doesn't execute some statements, if one fails.
-pub(crate) fn failure_in<S: Alter + Drop>(
+/// Why a database doesn't execute a statement, if there is one and it fails.
+fn failure_in<S: Alter + Drop>(
     mut conn: Connection<S>,
-    statements: &[&str],
+    statement: Option<&str>,
 ) -> Option<DatabaseReason> {
-    for statement in statements {
-        if let Err(error) = conn.execute(statement, &[]) {
-            return failure_of(error);
-        }
+    match conn.execute(statement?, &[]) {
+        Ok(_) => None,
+        Err(error) => failure_of(error),
     }
-    None
 }
 
-/// How the disk has failed since the file was opened.
+/// The same of a file's database.
+pub(crate) fn failure_at<D: Disk + Drop>(
+    conn: Connection<FileStore<D>>,
+    statement: Option<&str>,
+) -> Option<DatabaseReason> {
+    failure_in(conn, statement)
+}
+
+/// How the disk has failed since the file was opened. What isn't committed is dropped, and nothing is written.
 pub(crate) fn failure_since<D: Disk + Drop>(conn: Connection<FileStore<D>>) -> DatabaseReason {
-    match closed(conn) {
-        Ok(files) => failure_by(files.tally()),
-        Err((_error, tally)) => failure_by(tally),
-    }
+    failure_by(conn.into_store().close().tally())
 }
 
 /// The failure that an error names. A statement that doesn't suit the tables is none.
 pub(crate) fn failure_of(error: Error) -> Option<DatabaseReason> {
     match error {
-        Error::SqliteFailure(code) => Some(DatabaseReason::Failed(code)),
+        Error::SqliteFailure(code) => Some(failure(code)),
         _ => None,
     }
 }
 
 /// How a disk failed, by its counts of calls that found no room, and of damaged reads.
 fn failure_by(tally: Tally) -> DatabaseReason {
-    DatabaseReason::Failed(if tally.refused > 0 {
+    failure(if tally.refused > 0 {
         ErrorCode::DiskFull
     } else if tally.caught > 0 {
         ErrorCode::DatabaseCorrupt
     } else {
         ErrorCode::SystemIoFailure
     })
+}
+
+/// The failure with this code. Of a disk without room, the text is the system's.
+fn failure(code: ErrorCode) -> DatabaseReason {
+    match code {
+        ErrorCode::DiskFull => DatabaseReason::System(io::Error::from_raw_os_error(NO_ROOM)),
+        code => DatabaseReason::Failed(code),
+    }
 }
 
 /// The code of SQLite for a reason.

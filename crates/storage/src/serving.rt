@@ -1,7 +1,7 @@
 //! Serves connections from stored rows.
 ghost use Rattle.std.specs.Prelude.{◌≡◌, ◌<◌, IfErr, IfOk, OnErr};
 ghost use Rattle.storage.specs.StoreOpened.{IsMended};
-ghost use Rattle.storage.specs.Serving.{AnswersFound, AnswersFrom, IsRefused, ServesEach, ServesFrom, ServesNext};
+ghost use Rattle.storage.specs.Serving.{AnswersFound, AnswersFrom, IsRefused, ServesFrom};
 
 use crate::row_storage::{RowStorage, StoredRows};
 use connection::{ConnectionFault, Listen, Served, serve, serve_connections};

@@ -2,22 +2,20 @@
 ghost use Rattle.std.specs.Prelude.{true, false, IfErr, IfOk, IsTrue};
 ghost use Rattle.storage.specs.StoreOpened.{FindsRows, IsOpenedAt, LeavesRows};
 
-use crate::database::{DatabaseFile, Remains, connected, fault_in};
-use crate::reason::{DatabaseReason, NO_TABLES, failure_in, failure_since};
+use crate::database::{DatabaseFile, Opening, Remains, connected};
+use crate::reason::DatabaseReason;
 use crate::row_storage::{RowStorage, StoredRows};
 use provider_core::Registry;
 use provider_store::{RegistryOpenFault, SqlRegistry};
-use sql_tables::is_blank;
-use sqlite::{Alter, Connection, Error, File, FileStore};
+use sqlite::{Error, File, FileStore};
 use sqlite_disk::{Disk, Files};
-use std::alloc::Global;
 use std::rt::HostRuntime;
 
 /// A statement that leaves the tables as they are.
-const SAME: [&str; 1] = ["UPDATE provider_format SET number = number"];
+const SAME: &str = "UPDATE provider_format SET number = number";
 
 /// A file that keeps the rows of a provider. Opening makes the file if there is none.
-#[derive(Clone, Copy)]
+#[derive(Drop)]
 pub struct StoreFile<'a> {
     pub file: DatabaseFile<'a>,
 }
@@ -37,16 +35,16 @@ impl<'a> RowStorage for StoreFile<'a> {
     /// If the file is refused, it is closed unchanged.
     fn open(&self) -> Result<Self::Rows, RegistryOpenFault> {
         match rows_in(self.file.rt, self.file.open()?) {
-            Ok(rows) => Ok(rows),
-            Err(refused) => Err(fault_in(refused)),
+            Ok(rows) => {
+                self.file.keep(Opening::Done);
+                Ok(rows)
+            }
+            Err(refused) => Err(self.file.refused(refused)),
         }
     }
 
     fn reason(&self) -> Option<DatabaseReason> {
-        match self.file.open_again() {
-            Ok(conn) => reason_in(self.file.rt.alloc(), conn),
-            Err(reason) => reason,
-        }
+        self.file.reason(SAME)
     }
 
     fn name(&self) -> &str {
@@ -84,37 +82,10 @@ fn rows_in<D: Disk + Drop>(
 {
     let conn = match connected(rt, files) {
         Ok(conn) => conn,
-        Err((error, left)) => return Err((RegistryOpenFault::from(error), Err(left))),
+        Err(refused) => return Err((RegistryOpenFault::from(refused.0), Err(refused))),
     };
     match SqlRegistry::open(rt.alloc(), conn) {
         Ok(rows) => Ok(rows),
         Err((fault, conn)) => Err((fault, Ok(conn))),
-    }
-}
-
-/// Why the rows of a file that was opened again can't be used.
-fn reason_in<D: Disk + Drop>(
-    alloc: Global,
-    conn: Connection<FileStore<D>>,
-) -> Option<DatabaseReason> {
-    match refusal(alloc, conn) {
-        Ok(reason) => reason,
-        Err(conn) => Some(failure_since(conn)),
-    }
-}
-
-/// Why the rows of a connection that was opened again can't be used: it opens them, and writes what is there. It makes
-/// no tables. If the store fails, the connection is handed back.
-fn refusal<S: Alter + Drop>(
-    alloc: Global,
-    conn: Connection<S>,
-) -> Result<Option<DatabaseReason>, Connection<S>> {
-    if is_blank(conn.schema()) {
-        return Ok(failure_in(conn, &NO_TABLES));
-    }
-    match SqlRegistry::open(alloc, conn) {
-        Ok(rows) => Ok(failure_in(SqlRegistry::close(rows), &SAME)),
-        Err((RegistryOpenFault::Store, conn)) => Err(conn),
-        Err((_fault, _conn)) => Ok(None),
     }
 }

@@ -1,5 +1,5 @@
 use Rattle.std.proofs.Common.{◌≡◌, map, take}
-use Rattle.journal_store.specs.Format.{column_of}
+use Rattle.journal_store.specs.Tables.{column_of}
 use Rattle.journal_store.proofs.format.has_columns.Given as goal
 
 -- the columns so far are these

@@ -1,5 +1,5 @@
 use Rattle.std.proofs.Common.{◌≡◌, [], ◌∷◌, ◌∙◌, sym, ap, rules, tests}
-use Rattle.journal_store.specs.Format.{key_places}
+use Rattle.journal_store.specs.Tables.{key_places}
 use Rattle.sql_tables.proofs.Items.{one_item}
 use Rattle.journal_store.proofs.format.has_unique.Goals as goal
 

@@ -1,5 +1,7 @@
 use Rattle.std.proofs.Common.{◌≡◌, [], ◌∙◌, sym, rules, tests}
-use Rattle.journal_store.specs.Format.{first_groups, first_users, format_name, second_users, third_users}
+use Rattle.journal_store.specs.Older.Format.{first_groups, first_users, second_users}
+use Rattle.journal_store.specs.Tables.{format_name}
+use Rattle.journal_store.specs.Format.{third_users}
 use Rattle.sql_tables.specs.Layouts.{format_table}
 use Rattle.sql_tables.proofs.Items.{five_items, six_items}
 use Rattle.journal_store.specs.Opening.{IsKeyedTable}

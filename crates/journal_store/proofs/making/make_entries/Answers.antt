@@ -1,7 +1,7 @@
 use Rattle.std.proofs.Common.{arith}
 use Rattle.sqlite.specs.Held.{state}
 use Rattle.sqlite.specs.State.{HasCleanDisk}
-use Rattle.journal_store.proofs.Carried.{tables_made}
+use Rattle.journal_store.proofs.OlderFormats.Carried.{tables_made}
 use Rattle.journal_store.proofs.making.make_entries.Goals as goal
 
 pub returns-clause-made : goal.returns-clause-made

@@ -9,7 +9,7 @@ use Rattle.sql_tables.specs.Layouts.{IsBlank}
 use Rattle.sql_tables.proofs.Results.{on_ok}
 use Rattle.journal_store.specs.Opening.{IsStore, LeavesNone}
 use Rattle.journal_store.specs.Rows.{entries_in}
-use Rattle.journal_store.proofs.Ending.{store_kept}
+use Rattle.journal_store.proofs.OlderFormats.Ending.{store_kept}
 use Rattle.journal_store.proofs.making.make_tables.Goals as goal
 
 pub carry_over-requires-clause-older : goal.carry_over-requires-clause-older

@@ -3,7 +3,7 @@ use Rattle.std.specs.FinMap.{empty}
 use Rattle.sqlite.specs.Held.{state}
 use Rattle.journal_core.specs.Entries.{EntryMap}
 use Rattle.journal_store.specs.Opening.{IsCarriedBy, IsDamaged, IsFirst, IsFirstSpoilt, IsJournal, IsNewer, IsSecond, IsSecondSpoilt, IsStore}
-use Rattle.journal_store.specs.Formats.{first_format, second_format}
+use Rattle.journal_store.specs.Older.Formats.{first_format, second_format}
 use Rattle.sql_tables.proofs.Results.{on_both, on_ok, if_err}
 use Rattle.sql_tables.specs.Faults.{HasFailed}
 use Rattle.journal_store.proofs.Checking.{foreign_cause, is_for, no_damage}
