@@ -6,7 +6,7 @@ import selectors
 import time
 
 from exchanges import create_user, user
-from support import BOB_CREATED, CREATE_BOB, PATIENCE, ProgramTest, read_all, resource_id
+from support import BOB_CREATED, CREATE_BOB, PATIENCE, ProgramTest, Provider, read_all, resource_id
 from test_slow_clients import LIST, PROMPTLY, narrow_connection
 
 # More clients than any part of the program looks at by accident
@@ -14,11 +14,20 @@ MANY = 100
 # Many times as many as it looks at before it accepts another
 MANY_IN_PARTS = 256
 FIND_BOB = f"GET /v2/Users/{resource_id(1)} HTTP/1.1\r\nHost: h\r\n\r\n".encode()
+GROUPS = LIST.replace(b"Users", b"Groups")
+# The most bytes of memory that are kept for answers which aren't read
+MOST_KEPT = 16 * 1024 * 1024
 
 
 def body_of(answer):
     head, _, body = answer.partition(b"\r\n\r\n")
     return head.split(b" ")[1], json.loads(body)
+
+
+def most_memory(pid):
+    """The most bytes of memory that a process has had."""
+    with open(f"/proc/{pid}/status", encoding="ascii") as status:
+        return next(int(line.split()[1]) * 1024 for line in status if line.startswith("VmHWM:"))
 
 
 def read_side_by_side(streams):
@@ -90,3 +99,21 @@ class ManyClientsTest(ProgramTest):
                 # the last ones read, while the others don't yet
                 for some in streams[-MANY // 5:], streams[:-MANY // 5]:
                     self.assertTrue(all(answer == whole for answer in read_side_by_side(some)))
+
+    def test_answers_that_nobody_reads(self):
+        """Each has 5.5 MB. All of them together take no more memory than is said, and a few that are being formed."""
+        members = [{"value": f"{number:03}".rjust(50, "m")} for number in range(400)]
+        with Provider(1_000_000) as provider:
+            for number in range(200):
+                group = {"displayName": f"group-{number:03}", "members": members}
+                self.assertEqual(provider.ask("POST", "/v2/Groups", json.dumps(group)).status, 201)
+            answer = provider.exchange(GROUPS)
+            before = most_memory(provider.pid)
+            with contextlib.ExitStack() as stack:
+                for _ in range(200):
+                    stack.enter_context(narrow_connection(provider.port)).sendall(GROUPS)
+                # a new client comes before each that waits: so all of these have been answered by then
+                for _ in range(210):
+                    self.assert_prompt(provider, FIND_BOB, b"404")
+                self.assertLess(most_memory(provider.pid) - before, MOST_KEPT + 4 * len(answer))
+            self.assertGreater(self.connection_faults(self.kill(provider)), 0)
