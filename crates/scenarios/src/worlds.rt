@@ -71,11 +71,15 @@ fn others_act_between_the_events(rt: HostRuntime) {
     let mut acts = Vec::new(alloc);
     let content = zoe(&rt, alloc);
     acts.push(Act::Writes(content)).expect(&rt, "memory");
-    for event in read_schedule(alloc, CREATION).expect(&rt, "a schedule").into_iter() {
+    for event in read_schedule(alloc, CREATION)
+        .expect(&rt, "a schedule")
+        .into_iter()
+    {
         acts.push(Act::Ours(event)).expect(&rt, "memory");
     }
     let content = zoe(&rt, alloc);
-    acts.push(Act::Asks(Request::Create { content })).expect(&rt, "memory");
+    acts.push(Act::Asks(Request::Create { content }))
+        .expect(&rt, "memory");
     let (registry, journal) = (MemoryRegistry::new(alloc), MemoryJournal::new(alloc));
     let ran = run_among(alloc, registry, journal, base(&rt, alloc), acts.as_slice());
     let (mut world, reports) = ran.expect(&rt, "a run");
