@@ -5,7 +5,7 @@ import random
 import selectors
 import time
 
-from exchanges import create_user, user
+from exchanges import create_user, group, user
 from support import BOB_CREATED, CREATE_BOB, PATIENCE, ProgramTest, Provider, read_all, resource_id
 from test_slow_clients import LIST, PROMPTLY, narrow_connection
 
@@ -105,8 +105,8 @@ class ManyClientsTest(ProgramTest):
         members = [{"value": f"{number:03}".rjust(50, "m")} for number in range(400)]
         with Provider(1_000_000) as provider:
             for number in range(200):
-                group = {"displayName": f"group-{number:03}", "members": members}
-                self.assertEqual(provider.ask("POST", "/v2/Groups", json.dumps(group)).status, 201)
+                content = json.dumps(group(f"group-{number:03}", members=members))
+                self.assertEqual(provider.ask("POST", "/v2/Groups", content).status, 201)
             answer = provider.exchange(GROUPS)
             before = most_memory(provider.pid)
             with contextlib.ExitStack() as stack:
