@@ -101,7 +101,7 @@ class ManyClientsTest(ProgramTest):
                     self.assertTrue(all(answer == whole for answer in read_side_by_side(some)))
 
     def test_answers_that_nobody_reads(self):
-        """Each has 5.5 MB. All of them together take no more memory than is said, and a few that are being formed."""
+        """Each has almost 5 MB. All of them together take no more memory than is said, and a few that are being formed."""
         members = [{"value": f"{number:03}".rjust(50, "m")} for number in range(400)]
         with Provider(1_000_000) as provider:
             for number in range(200):
