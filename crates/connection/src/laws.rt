@@ -18,7 +18,7 @@ pub fn stops_leave_one_request<R: Registry>()
 {}
 
 /// Each connection that is held when a round begins is looked at in it, if it is time to, or leaves, before the next
-/// round begins. Newcomers, and those that leave, put nobody off.
+/// round begins. Neither a newcomer nor a connection that leaves puts anybody off.
 pub fn rounds_meet_everybody<S: Read + Drop>()
     ensures { (most : ℕ) → MeetsEverybody S.remaining most }
 {}

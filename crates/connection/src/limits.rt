@@ -58,7 +58,7 @@ pub(crate) fn report_pause() -> Duration
     Duration::from_secs(1)
 }
 
-/// The shortest time between two counts of the memory of those that wait, if nobody has to leave.
+/// The shortest time between two counts of the memory of waiting connections, if nobody has to leave.
 pub(crate) fn count_pause() -> Duration {
     Duration::from_millis(1)
 }

@@ -44,9 +44,9 @@ where
     reported: Option<Instant>,
     faults: FaultCount,
     waiting: Waiting<L::Stream>,
-    /// When the memory of those that wait was counted last, and nobody had to leave.
+    /// When the memory of waiting connections was counted last, and nobody had to leave.
     counted: Option<Instant>,
-    /// How many new connections may come before those that wait are looked at again.
+    /// How many new connections may come before the waiting ones are looked at again.
     turns_of_new: u32,
     endings: Endings<'a, SharedStream<L::Stream>, C>,
 }
@@ -104,7 +104,7 @@ where
         }
     }
 
-    /// Whether it is time to count the memory of those that wait.
+    /// Whether it is time to count the memory of waiting connections.
     fn is_memory_due(&self, now: Instant) -> bool {
         match self.counted {
             Some(counted) => now.duration_since(counted) >= count_pause(),
@@ -112,7 +112,7 @@ where
         }
     }
 
-    /// Gives up the oldest connection if the requests of those that wait take too much memory. It returns whether it
+    /// Gives up the oldest connection if the requests of all that wait take too much memory. It returns whether it
     /// did: then they are counted again at once.
     fn free_memory(&mut self, now: Instant) -> bool {
         let is_freed = self.waiting.free_memory(now);

@@ -13,7 +13,7 @@ use std::io::Read;
 use std::time::Instant;
 
 /// Connections whose requests aren't whole yet, in the order in which they were accepted. They are passed in rounds.
-/// A round has those that are held when it begins.
+/// A round has the connections that are held when it begins.
 #[derive(Drop)]
 pub(crate) struct Waiting<S: Drop> {
     connections: VecDeque<Held<S>>,
