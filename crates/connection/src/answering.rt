@@ -14,7 +14,9 @@ ghost use Rattle.connection.specs.Known.{ServesKnown};
 
 use crate::reactions::{Reaction, reaction_to};
 use http_text::{Incoming, Input, Output, ReadFault, read_request, send};
-use provider_core::{Answer, ErrorResponse, Provider, ProviderFault, Registry, Request};
+use provider_core::{
+    Answer, ErrorResponse, Meanwhile, Nothing, Provider, ProviderFault, Registry, Request,
+};
 use scim_http::{MeaningFault, Reply, fixed_response, meaning};
 use scim_key::Base;
 use scim_message::Refusal;
@@ -64,19 +66,49 @@ pub fn serve<R: Registry, I: Read, O: Write>(
     ensures writes { R.writes provider.new ≤ R.writes provider.old + 1 }
     ensures turns { CountsTurns writer.old.calls writer.new.calls }
 {
+    serve_meanwhile(alloc, provider, base, reader, writer, &mut Nothing)
+}
+
+/// Serves as `serve` does. If the request asks for a look through all rows, something else goes on after each page
+/// of rows.
+pub(crate) fn serve_meanwhile<R: Registry, I: Read, O: Write, M: Meanwhile>(
+    alloc: Global,
+    provider: &mut Provider<R>,
+    base: &Base,
+    reader: &mut Input<I>,
+    writer: &mut Output<O>,
+    meanwhile: &mut M,
+) -> Served
+    ensures served { (r : Result Message ReadFault) × spec.HasRead reader.old reader.new r
+        × spec.Serves (R.is_faithful provider.new) base.now (R.rows provider.old)
+        (R.rows provider.new) writer.old writer.new r result
+        × spec.LeavesRows R.Registry provider.old provider.new r }
+    ensures replied { spec.IsReplied R.Registry base.now provider.old provider.new
+        reader.old reader.new writer.old writer.new result }
+    ensures known { ServesKnown (R.is_faithful provider.new) base.now (R.rows provider.old)
+        (R.rows provider.new) writer.old writer.new result
+        reader.old.remaining reader.new.remaining }
+    ensures faults { spec.AnswersFaults R.Registry provider.old provider.new writer.old writer.new
+        result }
+    ensures quiet { IsQuiet R.is_faithful R.faults provider.old provider.new }
+    ensures writes { R.writes provider.new ≤ R.writes provider.old + 1 }
+    ensures turns { CountsTurns writer.old.calls writer.new.calls }
+    ensures keeps { M.keeps meanwhile.old meanwhile.new }
+{
     match read_request(alloc, reader) {
-        Ok(incoming) => serve_message(alloc, provider, base, &incoming, writer),
+        Ok(incoming) => { serve_message(alloc, provider, base, &incoming, writer, meanwhile) },
         Err(fault) => serve_fault(alloc, base, fault, writer),
     }
 }
 
 /// Answers a message.
-fn serve_message<R: Registry, O: Write>(
+fn serve_message<R: Registry, O: Write, M: Meanwhile>(
     alloc: Global,
     provider: &mut Provider<R>,
     base: &Base,
     incoming: &Incoming,
     writer: &mut Output<O>,
+    meanwhile: &mut M,
 ) -> Served
     ensures served { spec.Serves (R.is_faithful provider.new) base.now (R.rows provider.old)
         (R.rows provider.new) writer.old writer.new (Ok incoming.now) result }
@@ -89,8 +121,9 @@ fn serve_message<R: Registry, O: Write>(
     ensures quiet { IsQuiet R.is_faithful R.faults provider.old provider.new }
     ensures writes { R.writes provider.new ≤ R.writes provider.old + 1 }
     ensures turns { CountsTurns writer.old.calls writer.new.calls }
+    ensures keeps { M.keeps meanwhile.old meanwhile.new }
 {
-    match reply_to(alloc, provider, base, incoming) {
+    match reply_to(alloc, provider, base, incoming, meanwhile) {
         Ok(reply) => sent(writer, reply.status(), reply.text()),
         Err(_) => send_fixed(writer),
     }
@@ -136,11 +169,12 @@ fn refuse<O: Write>(
 }
 
 /// The response to a message. The message's change is made.
-fn reply_to<R: Registry>(
+fn reply_to<R: Registry, M: Meanwhile>(
     alloc: Global,
     provider: &mut Provider<R>,
     base: &Base,
     incoming: &Incoming,
+    meanwhile: &mut M,
 ) -> Result<Reply, ProviderFault>
     ensures reply { IfOk result (spec.AnswersMessage (R.is_faithful provider.new) base.now
         (R.rows provider.old) (R.rows provider.new) incoming.now) }
@@ -153,10 +187,11 @@ fn reply_to<R: Registry>(
     ensures writes { R.writes provider.new ≤ R.writes provider.old + 1 }
     ensures counted { CountsFaults CountsProviderFault
         (R.faults provider.old) (R.faults provider.new) result }
+    ensures keeps { M.keeps meanwhile.old meanwhile.new }
 {
     let leaves_body_out = is_head(incoming);
     match meaning(alloc, incoming) {
-        Ok(request) => carry_out(alloc, provider, base, &request, leaves_body_out),
+        Ok(request) => carry_out(alloc, provider, base, &request, leaves_body_out, meanwhile),
         Err(MeaningFault::Refused(refusal)) => Ok(refusal_reply(
             alloc,
             base,
@@ -174,12 +209,13 @@ fn is_head(incoming: &Incoming) -> bool
 }
 
 /// Makes the change of a request, and returns its response, which is formed first.
-fn carry_out<R: Registry>(
+fn carry_out<R: Registry, M: Meanwhile>(
     alloc: Global,
     provider: &mut Provider<R>,
     base: &Base,
     request: &Request,
     leaves_body_out: bool,
+    meanwhile: &mut M,
 ) -> Result<Reply, ProviderFault>
     ensures reply { IfOk result (spec.AnswersRequest (R.is_faithful provider.new) base.now
         (R.rows provider.old) (R.rows provider.new) leaves_body_out request.now) }
@@ -187,8 +223,9 @@ fn carry_out<R: Registry>(
         (changed_rows (R.rows provider.old) (outcome (R.rows provider.old) request.now).change)
         result }
     ensures open { R.is_honest provider.new → OnOk result (R.is_faithful provider.new) }
+    ensures keeps { M.keeps meanwhile.old meanwhile.new }
 {
-    let pending = provider.prepare(alloc, request)?;
+    let pending = provider.prepare_meanwhile(alloc, request, meanwhile)?;
     let reply = Reply::of(alloc, pending.answer(), base, leaves_body_out)?;
     provider.commit(pending)?;
     Ok(reply)

@@ -17,6 +17,10 @@ pub(crate) const MOST_LOOKS: usize = 16;
 /// The most connections that are accepted in a row, if their requests aren't whole.
 pub(crate) const MOST_IN_A_ROW: u32 = 16;
 
+/// The most connections that are found ready during a search, and served after it. Their requests don't count among
+/// `MOST_MEMORY`.
+pub(crate) const MOST_READY: usize = 64;
+
 /// The most connections that were served and aren't closed yet.
 pub(crate) const MOST_ENDINGS: usize = 256;
 
@@ -63,7 +67,7 @@ pub(crate) fn count_pause() -> Duration {
     Duration::from_millis(1)
 }
 
-/// The longest time between two looks at all endings while connections wait.
+/// The longest time between two looks at all endings while connections wait, and at all connections during a search.
 pub(crate) fn longest_turn() -> Duration {
     Duration::from_millis(1)
 }

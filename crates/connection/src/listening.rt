@@ -2,12 +2,13 @@
 ghost use Rattle.std.specs.Prelude.{◌≡◌, List, Option, None};
 ghost use Rattle.connection.specs.Listening.{Accepts};
 
+use provider_core::Meanwhile;
 use std::io;
 use std::io::{Read, Write};
 
 /// What accepts connections, one after another. A connection is a reader of what its peer sends and a
-/// writer of the answer.
-pub trait Listen {
+/// writer of the answer. While one is served, it may go on with others.
+pub trait Listen: Meanwhile {
     type Reader: Read + Drop;
 
     type Writer: Write + Drop;
@@ -32,4 +33,7 @@ pub trait Listen {
     {
         faults
     }
+
+    ghost keeps_waiting: { (early late : Self) → Self.Meanwhile.keeps early late
+        → waiting late ≡ waiting early };
 }

@@ -4,10 +4,10 @@ ghost use Rattle.provider_core.specs.Memory.{MemoryRecord};
 ghost use Rattle.connection.specs.Requests.{FollowRequests};
 ghost use Rattle.connection.specs.Turns.{IsServed, TakesTurn, ServesTurns, answered};
 
-use crate::answering::{Served, serve};
+use crate::answering::{Served, serve_meanwhile};
 use crate::listening::Listen;
 use http_text::{Input, Output};
-use provider_core::{MemoryRegistry, Provider, Registry};
+use provider_core::{Meanwhile, MemoryRegistry, Provider, Registry};
 use scim_key::Base;
 use std::alloc::Global;
 use std::io::{Eprint, Read, Write};
@@ -71,7 +71,8 @@ pub(crate) fn tell(rt: &impl Eprint, faults: u32) {
     };
 }
 
-/// Accepts the next connection, serves it with one request to the provider, and ends it.
+/// Accepts the next connection, serves it with one request to the provider, and ends it. During a search of all rows,
+/// the listener goes on with its other connections.
 pub fn serve_next<R: Registry, L: Listen>(
     alloc: Global,
     listener: &mut L,
@@ -84,25 +85,27 @@ pub fn serve_next<R: Registry, L: Listen>(
     let Ok((mut reader, mut writer)) = listener.accept() else {
         return Err(ConnectionFault);
     };
-    let served = serve_opened(alloc, base, provider, &mut reader, &mut writer);
+    let served = serve_opened(alloc, base, provider, &mut reader, &mut writer, listener);
     listener.end(reader, writer);
     answered(served)
 }
 
-/// Serves a connection.
-fn serve_opened<R: Registry, I: Read, O: Write>(
+/// Serves a connection. During a search of all rows, the listener goes on.
+fn serve_opened<R: Registry, I: Read, O: Write, L: Meanwhile>(
     alloc: Global,
     base: &Base,
     provider: &mut Provider<R>,
     reader: &mut I,
     writer: &mut O,
+    listener: &mut L,
 ) -> Served
-    ensures { IsServed I.remaining O.contents R.Registry base.now provider.old provider.new
+    ensures served { IsServed I.remaining O.contents R.Registry base.now provider.old provider.new
         reader.old writer.old result }
+    ensures keeps { L.keeps listener.old listener.new }
 {
     let mut input = Input::new(reader);
     let mut output = Output::new(writer);
-    serve(alloc, provider, base, &mut input, &mut output)
+    serve_meanwhile(alloc, provider, base, &mut input, &mut output, listener)
 }
 
 /// A connection has no fault if a response was written whole.

@@ -1,5 +1,5 @@
 //! The connections of a listening socket.
-ghost use Rattle.std.specs.Prelude.{◌≡◌, ◌-◌, [], IfOk};
+ghost use Rattle.std.specs.Prelude.{◌≡◌, ◌-◌, [], IfOk, refl};
 ghost use Rattle.connection.specs.Reporting.{with_more};
 
 use crate::accepting::makes_room;
@@ -10,13 +10,17 @@ use crate::endings::Endings;
 use crate::faults::{FaultCount, may_report};
 use crate::held::Held;
 use crate::late::LateWriter;
-use crate::limits::{MOST_IN_A_ROW, count_pause, first_sleep, longest_sleep};
+use crate::limits::{
+    MOST_IN_A_ROW, MOST_READY, count_pause, first_sleep, longest_sleep, longest_turn,
+};
 use crate::listening::Listen;
 use crate::prompt::PromptStream;
 use crate::serving::{ConnectionFault, tell};
 use crate::shared::SharedStream;
 use crate::waiting::Waiting;
+use provider_core::Meanwhile;
 use std::alloc::Global;
+use std::collections::VecDeque;
 use std::io::{Eprint, ErrorKind, Read, Write};
 use std::net::{OpenListener, OpenStream};
 use std::time::{Clock, Duration, Instant};
@@ -27,8 +31,8 @@ const LOOKS_AT_ONCE: u32 = 50;
 
 /// The connections of a listening socket. Each has this time in all, from when it is accepted. A connection
 /// is given out when its request is whole, is refused by its form, has ended or failed, or is out of time.
-/// Meanwhile, other connections are read, answers are sent as their peers take them, and streams that were
-/// served are drained.
+/// Meanwhile, and during long searches, other connections are accepted and read, answers are sent as their peers
+/// take them, and streams that were served are drained.
 #[derive(Drop)]
 pub struct Sockets<'a, L: OpenListener + Drop, C: Clock>
 where
@@ -44,6 +48,12 @@ where
     reported: Option<Instant>,
     faults: FaultCount,
     waiting: Waiting<L::Stream>,
+    /// Those that were found ready during a search, and are served next.
+    ready: VecDeque<Held<L::Stream>>,
+    /// How many faults there were during a search that aren't given out yet.
+    failed: u32,
+    /// When others were looked at last during the search that is under way.
+    attended: Option<Instant>,
     /// When the memory of waiting connections was counted last, and nobody had to leave.
     counted: Option<Instant>,
     /// How many new connections may come before the waiting ones are looked at again.
@@ -74,15 +84,18 @@ where
             reported: None,
             faults: FaultCount::new(),
             waiting: Waiting::new(alloc),
+            ready: VecDeque::new(alloc),
+            failed: 0,
+            attended: None,
             counted: None,
             turns_of_new: 0,
             endings: Endings::new(alloc, clock),
         }
     }
 
-    /// Looks at the next connections, and takes out the first that can be served. It fails if another one had to
-    /// be dropped.
-    fn look(&mut self) -> io::Result<Look<L::Stream>> {
+    /// Looks at the next connections, and takes out the first that can be served. If there is nothing else to do,
+    /// and it `may_wait`, it waits for a new one. It fails if another one had to be dropped.
+    fn look(&mut self, may_wait: bool) -> io::Result<Look<L::Stream>> {
         let now = Instant::now(self.clock)?;
         let has_moved = self.endings.are_due(now) && self.endings.go_on(now);
         if self.is_memory_due(now) && self.free_memory(now) {
@@ -91,7 +104,7 @@ where
         if let Some(held) = self.take_ready(now) {
             return Ok(Look::Ready(held));
         }
-        if let Some(stream) = self.next_stream(now)? {
+        if let Some(stream) = self.next_stream(now, may_wait)? {
             return self.look_at(stream);
         }
         self.turns_of_new = 0;
@@ -131,13 +144,13 @@ where
         self.waiting.take_ready(self.alloc, now)
     }
 
-    /// The stream of a connection that the system has accepted. If there is nothing else to do, it waits for
-    /// one.
-    fn next_stream(&mut self, now: Instant) -> io::Result<Option<L::Stream>> {
+    /// The stream of a connection that the system has accepted. If there is nothing else to do, and it `may_wait`,
+    /// it waits for one.
+    fn next_stream(&mut self, now: Instant, may_wait: bool) -> io::Result<Option<L::Stream>> {
         if !self.waiting.has_room(now) {
             return Ok(None);
         }
-        let gives_up = !(self.waiting.is_empty() && self.endings.is_empty());
+        let gives_up = !(may_wait && self.waiting.is_empty() && self.endings.is_empty());
         if gives_up != self.gives_up {
             self.listener.set_nonblocking(gives_up)?;
             self.gives_up = gives_up;
@@ -180,6 +193,64 @@ where
         } else {
             Err(io::Error::from(ErrorKind::TimedOut))
         }
+    }
+
+    /// Goes on with others during a search: their answers are sent, new ones are accepted, and what they send is
+    /// read.
+    fn attend(&mut self, now: Instant) {
+        self.endings.go_on(now);
+        for _ in 0..MOST_IN_A_ROW {
+            if !self.attend_once() {
+                return;
+            }
+        }
+    }
+
+    /// Looks at some connections during a search, and keeps the first that can be served. It returns whether there
+    /// may be more to do.
+    fn attend_once(&mut self) -> bool {
+        if self.ready.len() >= MOST_READY || self.ready.reserve(1).is_err() {
+            return false;
+        }
+        match self.look(false) {
+            Ok(Look::Ready(held)) => self.ready.push_back(held).is_ok(),
+            Ok(Look::Moves) => true,
+            Ok(Look::Continues | Look::Waits) => false,
+            Err(_) => {
+                self.failed = self.failed.saturating_add(1);
+                true
+            }
+        }
+    }
+
+    /// Waits for a connection that can be served.
+    fn wait(&mut self) -> io::Result<Held<L::Stream>> {
+        let mut idle: u32 = 0;
+        for _ in 0..u64::MAX {
+            match self.look(true)? {
+                Look::Ready(held) => return Ok(held),
+                Look::Moves => idle = 0,
+                Look::Continues => {}
+                Look::Waits => {
+                    pause(self.clock, idle);
+                    idle = idle.saturating_add(1);
+                }
+            }
+        }
+        Err(io::Error::from(ErrorKind::TimedOut))
+    }
+
+    /// The next connection that can be served: first those that were found during a search.
+    fn next_ready(&mut self) -> io::Result<Held<L::Stream>> {
+        self.attended = None;
+        if let Some(held) = self.ready.pop_front() {
+            return Ok(held);
+        }
+        if self.failed > 0 {
+            self.failed -= 1;
+            return Err(io::Error::from(ErrorKind::TimedOut));
+        }
+        self.wait()
     }
 
     /// Counts faults of connections, and with them the answers that were lost since the last call.
@@ -237,6 +308,32 @@ fn opened<'a, S: Read + Write + OpenStream + Drop, C: Clock>(
     ))
 }
 
+impl<'a, L: OpenListener + Drop, C: Clock> Meanwhile for Sockets<'a, L, C>
+where
+    L::Stream: Read + Write + OpenStream,
+{
+    ghost keeps = { λ _ _. Unit {0} };
+
+    ghost keeps_itself = { λ _. tt };
+
+    ghost keeps_on = { λ _ _ _ _ _. tt };
+
+    /// A search goes on. If the last look at others was a while ago, they are looked at.
+    fn after_page(&mut self) {
+        let Ok(now) = Instant::now(self.clock) else {
+            return;
+        };
+        match self.attended {
+            Some(attended) if now.duration_since(attended) < longest_turn() => {}
+            Some(_) => {
+                self.attended = Some(now);
+                self.attend(now);
+            }
+            None => self.attended = Some(now),
+        }
+    }
+}
+
 impl<'a, L: OpenListener + Drop, C: Clock> Listen for Sockets<'a, L, C>
 where
     L::Stream: Read + Write + OpenStream,
@@ -246,19 +343,8 @@ where
     type Writer = Answering<'a, L::Stream, C>;
 
     fn accept(&mut self) -> io::Result<(Self::Reader, Self::Writer)> {
-        let mut idle: u32 = 0;
-        for _ in 0..u64::MAX {
-            match self.look()? {
-                Look::Ready(held) => return opened(self.alloc, held, self.clock),
-                Look::Moves => idle = 0,
-                Look::Continues => {}
-                Look::Waits => {
-                    pause(self.clock, idle);
-                    idle = idle.saturating_add(1);
-                }
-            }
-        }
-        Err(io::Error::from(ErrorKind::TimedOut))
+        let held = self.next_ready()?;
+        opened(self.alloc, held, self.clock)
     }
 
     fn end(&mut self, _: Self::Reader, writer: Self::Writer) {
@@ -274,6 +360,8 @@ where
             Err(_) => self.faults.take_all(),
         }
     }
+
+    ghost keeps_waiting = { λ _ _ _. refl };
 }
 
 /// Lets others run. After some looks without anything to do, it sleeps: first for a moment, then longer.

@@ -4,6 +4,7 @@
 mod kinds;
 mod laws;
 mod listing;
+mod meanwhile;
 mod memory;
 mod outcomes;
 mod pending;
@@ -17,6 +18,7 @@ pub use laws::{
     records_are_found_by_name, requests_write_one_content, rows_follow_stories, stories_only_grow,
     tables_stay_whole,
 };
+pub use meanwhile::{Meanwhile, Nothing};
 pub use memory::MemoryRegistry;
 pub use outcomes::MOST_RESOURCES;
 pub use pending::{Change, Pending};

@@ -9,6 +9,7 @@ ghost use Rattle.provider_core.specs.Rows.{IsNumberedFrom};
 ghost use Rattle.provider_core.specs.Stores.{CountsProviderFault};
 
 use crate::kinds::KindPlaces;
+use crate::meanwhile::Meanwhile;
 use crate::pending::Pending;
 use crate::provider::{ProviderFault, ROWS_AT_ONCE};
 use crate::registry::Registry;
@@ -20,35 +21,38 @@ use std::alloc::{AllocError, Global};
 
 /// The list of a type without a filter, from the places that are kept. If there are none, or if a fault
 /// comes, they are looked for anew.
-pub(crate) fn list<R: Registry>(
+pub(crate) fn list<R: Registry, M: Meanwhile>(
     registry: &mut R,
     places: &mut Option<KindPlaces>,
     alloc: Global,
     kind: Kind,
     start: i64,
     count: Option<i64>,
+    meanwhile: &mut M,
 ) -> Result<Pending, ProviderFault>
     requires { KeepsPlaces R.Registry registry.old places.old }
     ensures ok { R.is_faithful registry.new
         → IfOk result (λ pending. pending
         ≡ outcome (R.rows registry.old) (Request.Search kind None start count)) }
     ensures reads { Reads R.Registry CountsProviderFault registry.old registry.new result }
-    ensures keeps { KeepsPlaces R.Registry registry.new places.new }
+    ensures places { KeepsPlaces R.Registry registry.new places.new }
+    ensures keeps { M.keeps meanwhile.old meanwhile.new }
 {
     let all = registry.count()?;
     let kept = places.take();
-    let found = kept_or_found(registry, alloc, all, kept)?;
+    let found = kept_or_found(registry, alloc, all, kept, meanwhile)?;
     let pending = list_page(registry, alloc, &found, kind, start, count)?;
     *places = Some(found);
     Ok(pending)
 }
 
 /// The places that were kept; if there are none, looks for them.
-fn kept_or_found<R: Registry>(
+fn kept_or_found<R: Registry, M: Meanwhile>(
     registry: &mut R,
     alloc: Global,
     all: u32,
     kept: Option<KindPlaces>,
+    meanwhile: &mut M,
 ) -> Result<KindPlaces, ProviderFault>
     requires open { R.is_honest registry.old → R.is_faithful registry.old }
     requires counted { R.is_faithful registry.old → all ≡ length (R.rows registry.old) }
@@ -56,29 +60,33 @@ fn kept_or_found<R: Registry>(
     ensures ok { R.is_faithful registry.new →
         IfOk result (λ places. places ≡ places_of (R.rows registry.old)) }
     ensures reads { Reads R.Registry CountsProviderFault registry.old registry.new result }
+    ensures keeps { M.keeps meanwhile.old meanwhile.new }
 {
     match kept {
         Some(places) => Ok(places),
-        None => find_places(registry, alloc, all),
+        None => find_places(registry, alloc, all, meanwhile),
     }
 }
 
 /// Looks through all rows for the places of each type, `ROWS_AT_ONCE` at a time.
-fn find_places<R: Registry>(
+fn find_places<R: Registry, M: Meanwhile>(
     registry: &mut R,
     alloc: Global,
     all: u32,
+    meanwhile: &mut M,
 ) -> Result<KindPlaces, ProviderFault>
     requires open { R.is_honest registry.old → R.is_faithful registry.old }
     requires counted { R.is_faithful registry.old → all ≡ length (R.rows registry.old) }
     ensures ok { R.is_faithful registry.new →
         IfOk result (λ places. places ≡ places_of (R.rows registry.old)) }
     ensures reads { Reads R.Registry CountsProviderFault registry.old registry.new result }
+    ensures keeps { M.keeps meanwhile.old meanwhile.new }
 {
     let mut places = KindPlaces::new(alloc);
     let mut after = 0;
     while after < all {
         add_page(registry, after, &mut places)?;
+        meanwhile.after_page();
         after = after.saturating_add(ROWS_AT_ONCE);
     }
     Ok(places)

@@ -12,6 +12,7 @@ ghost use Rattle.provider_core.specs.declared.provider.ProviderFault.TheVariants
 
 use crate::kinds::{KindPlaces, add_kept};
 use crate::listing::list;
+use crate::meanwhile::{Meanwhile, Nothing};
 use crate::outcomes::{MOST_RESOURCES, insertion, is_of_kind, refusal, replacement, retrieval};
 use crate::pending::{Change, Pending};
 use crate::registry::{Registry, RegistryFault};
@@ -109,6 +110,22 @@ impl<R: Registry> Provider<R> {
             IfOk result (λ pending. pending ≡ outcome (R.rows self.old) request.now) }
         ensures reads { Reads R.Registry CountsProviderFault self.old self.new result }
     {
+        self.prepare_meanwhile(alloc, request, &mut Nothing)
+    }
+
+    /// Forms the answer as `prepare` does. If it looks through all rows, something else goes on after each page of
+    /// rows.
+    pub fn prepare_meanwhile<M: Meanwhile>(
+        &mut self,
+        alloc: Global,
+        request: &Request,
+        meanwhile: &mut M,
+    ) -> Result<Pending, ProviderFault>
+        ensures ok { R.is_faithful self.new →
+            IfOk result (λ pending. pending ≡ outcome (R.rows self.old) request.now) }
+        ensures reads { Reads R.Registry CountsProviderFault self.old self.new result }
+        ensures keeps { M.keeps meanwhile.old meanwhile.new }
+    {
         match request {
             Request::Create { content } => self.prepare_create(alloc, content),
             Request::Retrieve {
@@ -122,7 +139,7 @@ impl<R: Registry> Provider<R> {
                 filter,
                 start,
                 count,
-            } => self.prepare_search(alloc, *kind, filter, *start, *count),
+            } => self.prepare_search(alloc, *kind, filter, *start, *count, meanwhile),
             Request::Replace {
                 id,
                 content,
@@ -180,38 +197,42 @@ impl<R: Registry> Provider<R> {
         }
     }
 
-    fn prepare_search(
+    fn prepare_search<M: Meanwhile>(
         &mut self,
         alloc: Global,
         kind: Kind,
         filter: &Option<Filter>,
         start: i64,
         count: Option<i64>,
+        meanwhile: &mut M,
     ) -> Result<Pending, ProviderFault>
         ensures ok { R.is_faithful self.new
             → IfOk result (λ pending. pending
             ≡ outcome (R.rows self.old) (Request.Search kind filter.now start count)) }
         ensures reads { Reads R.Registry CountsProviderFault self.old self.new result }
+        ensures keeps { M.keeps meanwhile.old meanwhile.new }
     {
         if filter.is_none() {
-            return self.prepare_list(alloc, kind, start, count);
+            return self.prepare_list(alloc, kind, start, count, meanwhile);
         }
         let mut gathered = Gathered::new(alloc, first_place(start), page_size(count));
-        self.gather(alloc, kind, filter, &mut gathered)?;
+        self.gather(alloc, kind, filter, &mut gathered, meanwhile)?;
         Ok(gathered.into_pending())
     }
 
-    fn prepare_list(
+    fn prepare_list<M: Meanwhile>(
         &mut self,
         alloc: Global,
         kind: Kind,
         start: i64,
         count: Option<i64>,
+        meanwhile: &mut M,
     ) -> Result<Pending, ProviderFault>
         ensures ok { R.is_faithful self.new
             → IfOk result (λ pending. pending
             ≡ outcome (R.rows self.old) (Request.Search kind None start count)) }
         ensures reads { Reads R.Registry CountsProviderFault self.old self.new result }
+        ensures keeps { M.keeps meanwhile.old meanwhile.new }
     {
         list(
             &mut self.registry,
@@ -220,24 +241,27 @@ impl<R: Registry> Provider<R> {
             kind,
             start,
             count,
+            meanwhile,
         )
     }
 
     /// Looks for the rows of a type that a filter finds; by the index, if the filter names one record.
-    fn gather(
+    fn gather<M: Meanwhile>(
         &mut self,
         alloc: Global,
         kind: Kind,
         filter: &Option<Filter>,
         gathered: &mut Gathered,
+        meanwhile: &mut M,
     ) -> Result<(), ProviderFault>
         ensures ok { R.is_faithful self.new →
             OnOk result (Gathers kind filter.now (R.rows self.old) gathered.old gathered.new) }
         ensures reads { Reads R.Registry CountsProviderFault self.old self.new result }
+        ensures keeps { M.keeps meanwhile.old meanwhile.new }
     {
         match single_key(alloc, filter)? {
             Some(name) => self.gather_named(kind, filter, &name, gathered),
-            None => self.gather_all(kind, filter, gathered),
+            None => self.gather_all(kind, filter, gathered, meanwhile),
         }
     }
 
@@ -261,20 +285,23 @@ impl<R: Registry> Provider<R> {
     }
 
     /// Looks through all rows, `ROWS_AT_ONCE` at a time.
-    fn gather_all(
+    fn gather_all<M: Meanwhile>(
         &mut self,
         kind: Kind,
         filter: &Option<Filter>,
         gathered: &mut Gathered,
+        meanwhile: &mut M,
     ) -> Result<(), ProviderFault>
         ensures ok { R.is_faithful self.new →
             OnOk result (Gathers kind filter.now (R.rows self.old) gathered.old gathered.new) }
         ensures reads { Reads R.Registry CountsProviderFault self.old self.new result }
+        ensures keeps { M.keeps meanwhile.old meanwhile.new }
     {
         let all = self.registry.count()?;
         let mut after = 0;
         while after < all {
             self.gather_page(kind, filter, after, gathered)?;
+            meanwhile.after_page();
             after = after.saturating_add(ROWS_AT_ONCE);
         }
         Ok(())

@@ -1,7 +1,7 @@
 use Rattle.std.proofs.Common.{Ok, Err, Some, refl, inl}
 use Rattle.connection.proofs.ReplyLemmas.{named_reply}
 use Rattle.connection.proofs.ServedLemmas.{leaves_all, serves_known}
-use Rattle.connection.proofs.answering.serve.Goals as goal
+use Rattle.connection.proofs.answering.serve_meanwhile.Goals as goal
 
 pub returns-in-Ok-clause-known : goal.returns-in-Ok-clause-known
 returns-in-Ok-clause-known g c =
