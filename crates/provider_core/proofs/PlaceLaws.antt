@@ -15,6 +15,7 @@ use Rattle.provider_core.specs.Listing.{Places, places_in, place_of, kind_places
 use Rattle.provider_core.specs.Rows.{same_kind, has_number, row_numbered, with_row, IsNumberedFrom}
 use Rattle.provider_core.specs.Searches.{is_hit, found, first_place, page_size, page_from, listing}
 use Rattle.provider_core.specs.Stores.{HoldsNumber}
+use Rattle.provider_core.specs.declared.registry.TheConstants.{ROWS_AT_ONCE}
 use Rattle.provider_core.proofs.RowLaws.{numbers_same}
 
 -- ---- rows by their places
@@ -106,7 +107,7 @@ kind-places : (kind : Kind) (rows : List StoredRecord) → places_in kind (place
 kind-places User rows = refl
 kind-places Group rows = refl
 
-pub page_size-few : (count : Option ℤ) → page_size count ≤ 200
+pub page_size-few : (count : Option ℤ) → page_size count ≤ ROWS_AT_ONCE
 page_size-few None = omega arith
 page_size-few (Some (pos n)) = omega arith
 page_size-few (Some (negsuc n)) = omega arith

@@ -11,8 +11,8 @@ ghost use Rattle.provider_core.specs.Stores.{CountsProviderFault};
 use crate::kinds::KindPlaces;
 use crate::meanwhile::Meanwhile;
 use crate::pending::Pending;
-use crate::provider::{ProviderFault, ROWS_AT_ONCE};
-use crate::registry::Registry;
+use crate::provider::ProviderFault;
+use crate::registry::{ROWS_AT_ONCE, Registry};
 use crate::searching::{first_place, listed, page_size};
 use scim_key::Kind;
 use scim_message::Request;
@@ -136,7 +136,7 @@ fn show_rows<R: Registry>(
     places: &[u32],
     page: &mut Vec<Shown>,
 ) -> Result<(), ProviderFault>
-    requires few { length places.now ≤ 200 }
+    requires few { length places.now ≤ ROWS_AT_ONCE }
     requires open { R.is_honest registry.old → R.is_faithful registry.old }
     ensures ok { R.is_faithful registry.new
         → OnOk result (page.new.items ≡ page.old.items
@@ -179,7 +179,7 @@ fn show_run<R: Registry>(
     run: usize,
     page: &mut Vec<Shown>,
 ) -> Result<(), ProviderFault>
-    requires few { run ≤ 200 }
+    requires few { run ≤ ROWS_AT_ONCE }
     ensures ok { R.is_faithful registry.new
         → OnOk result (page.new.items ≡ page.old.items
         ++ map shown (take run (drop after (R.rows registry.old)))) }

@@ -15,7 +15,7 @@ use crate::listing::list;
 use crate::meanwhile::{Meanwhile, Nothing};
 use crate::outcomes::{MOST_RESOURCES, insertion, is_of_kind, refusal, replacement, retrieval};
 use crate::pending::{Change, Pending};
-use crate::registry::{Registry, RegistryFault};
+use crate::registry::{ROWS_AT_ONCE, Registry, RegistryFault};
 use crate::reopening::Reopen;
 use crate::searching::{Gathered, first_place, page_size, single_key};
 use scim_filter::Filter;
@@ -26,9 +26,6 @@ use scim_version::Condition;
 use std::alloc::{AllocError, Global};
 use std::marker::Model;
 use thiserror::Error;
-
-/// How many rows a search reads from the store at a time.
-pub(crate) const ROWS_AT_ONCE: u32 = 200;
 
 /// Why a request got no answer. Nothing was changed.
 #[derive(Clone, Copy, Debug, PartialEq, Eq, Error)]

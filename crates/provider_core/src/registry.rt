@@ -10,6 +10,9 @@ use scim_resource::Stored;
 use std::alloc::{AllocError, AllocFailed};
 use thiserror::Error;
 
+/// The most rows that one call of a registry gives.
+pub const ROWS_AT_ONCE: u32 = 200;
+
 /// Why a call of a registry failed. The rows are unchanged.
 #[derive(Clone, Copy, Debug, PartialEq, Eq, Error)]
 pub enum RegistryFault {
@@ -89,7 +92,7 @@ pub trait Registry {
 
     /// At most `limit` rows, in order, from the first with a number above `after`.
     fn scan(&mut self, after: u32, limit: usize) -> Result<Vec<Stored>, RegistryFault>
-        requires few { limit ≤ 200 }
+        requires few { limit ≤ ROWS_AT_ONCE }
         ensures ok { is_faithful self.new
             → IfOk result (λ page. page.items ≡ page_after after limit (rows self.old)) }
         ensures numbered { is_faithful self.new → IsNumberedFrom 1 (rows self.old) }

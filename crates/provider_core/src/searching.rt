@@ -10,6 +10,7 @@ ghost use Rattle.provider_core.specs.Outcomes.{replied};
 
 use crate::outcomes::is_of_kind;
 use crate::pending::{Change, Pending};
+use crate::registry::ROWS_AT_ONCE;
 use scim_filter::Filter;
 use scim_key::{Kind, RecordName};
 use scim_message::{Answer, ListResponse, Resources};
@@ -17,8 +18,8 @@ use scim_resource::{Shown, Stored};
 use std::alloc::{AllocError, Global};
 use std::marker::Model;
 
-/// The most resources that one list shows.
-pub const MOST_LISTED: usize = 200;
+/// The most resources that one list shows: as many as one call of a registry gives.
+pub const MOST_LISTED: usize = ROWS_AT_ONCE as usize;
 
 /// The place of the first resource on the page, counted from 1.
 pub(crate) fn first_place(start: i64) -> u64

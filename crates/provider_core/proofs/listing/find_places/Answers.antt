@@ -2,7 +2,7 @@ use Rattle.std.proofs.Common.{◌≡◌, ◌^◌, ◌-◌, List, take, drop, len
 use Rattle.std.specs.Prelude.{Ok}
 use Rattle.scim_resource.specs.Rows.{StoredRecord}
 use Rattle.provider_core.specs.Listing.{AddsRows, places_of}
-use Rattle.provider_core.specs.declared.provider.TheConstants.{ROWS_AT_ONCE}
+use Rattle.provider_core.specs.declared.registry.TheConstants.{ROWS_AT_ONCE}
 use Rattle.provider_core.proofs.CallLaws.{reads-on}
 use Rattle.provider_core.proofs.Paging.{finds-further, finds-all}
 use Rattle.provider_core.proofs.listing.find_places.Goals as goal

@@ -2,7 +2,7 @@ use Rattle.std.proofs.Common.{◌≡◌, ◌≤◌, ◌^◌, ◌-◌, List, take
 use Rattle.std.specs.Prelude.{Ok}
 use Rattle.scim_resource.specs.Rows.{StoredRecord}
 use Rattle.provider_core.specs.Gathering.{GoesThrough}
-use Rattle.provider_core.specs.declared.provider.TheConstants.{ROWS_AT_ONCE}
+use Rattle.provider_core.specs.declared.registry.TheConstants.{ROWS_AT_ONCE}
 use Rattle.provider_core.proofs.CallLaws.{reads-on}
 use Rattle.provider_core.proofs.Gathering.{goes-further, goes-all, gathers-few}
 use Rattle.provider_core.proofs.provider.Provider.gather_all.Goals as goal

@@ -1,7 +1,7 @@
 use Rattle.std.proofs.Common.{◌≡◌, List, take, drop, sym, subst, ◌∙◌}
 use Rattle.scim_resource.specs.Rows.{StoredRecord}
 use Rattle.provider_core.specs.Gathering.{GoesThrough}
-use Rattle.provider_core.specs.declared.provider.TheConstants.{ROWS_AT_ONCE}
+use Rattle.provider_core.specs.declared.registry.TheConstants.{ROWS_AT_ONCE}
 use Rattle.provider_core.proofs.MemoryLaws.{page-dropped}
 use Rattle.provider_core.proofs.provider.Provider.gather_page.Goals as goal
 
