@@ -96,7 +96,7 @@ pub(crate) fn serve_meanwhile<R: Registry, I: Read, O: Write, M: Meanwhile>(
     ensures keeps { M.keeps meanwhile.old meanwhile.new }
 {
     match read_request(alloc, reader) {
-        Ok(incoming) => { serve_message(alloc, provider, base, &incoming, writer, meanwhile) },
+        Ok(incoming) => serve_message(alloc, provider, base, &incoming, writer, meanwhile),
         Err(fault) => serve_fault(alloc, base, fault, writer),
     }
 }
