@@ -58,5 +58,13 @@ view_text view =
     ++ (codes " version=" ++ (decimal view.version
     ++ (codes " " ++ held_text view.name.kind view.active view.members)))))))))))
 
+-- the same of a record that isn't ours: what the provider holds
+abbrev pub others_text : View → List ℕ
+others_text view =
+    codes "other " ++ (kind_word view.name.kind ++ (codes " " ++ (view.name.key
+    ++ (codes " held=" ++ (revision_text view.held
+    ++ (codes " version=" ++ (decimal view.version
+    ++ (codes " " ++ held_text view.name.kind view.active view.members))))))))
+
 abbrev pub count_text : Count → List ℕ
 count_text count = codes "settled in " ++ (decimal count.exchanges ++ codes " exchanges")

@@ -70,18 +70,52 @@ impl fmt::Display for View {
     fn fmt<W: fmt::Write>(&self, f: &mut fmt::Formatter<W>) -> fmt::Result {
         let (kind, key) = (kind_word(self.name.kind), self.name.key.as_str());
         let (wanted, confirmed) = (self.wanted, self.confirmed);
-        let (held, version) = (self.held, self.version);
-        let end = Held {
-            kind: self.name.kind,
-            active: self.active,
-            members: self.members,
-        };
+        let (held, version, end) = (self.held, self.version, self.end());
         write!(f, "{kind} {key} wanted={wanted} confirmed={confirmed}")?;
         write!(f, " held={held} version={version} {end}")
     }
 }
 
+/// What the provider holds of a record that isn't ours.
+#[derive(Clone, Copy)]
+pub(crate) struct OthersRecord<'a> {
+    view: &'a View,
+}
+
+impl fmt::Display for OthersRecord<'_> {
+    ghost use Rattle.std.specs.Prelude.{Some};
+    ghost use Rattle.world_sim.specs.Lines.{others_text};
+
+    ghost output = { λ shown. Some (others_text shown.view.now) };
+
+    /// A line: `other user dee held=1 version=2 active=true`.
+    fn fmt<W: fmt::Write>(&self, f: &mut fmt::Formatter<W>) -> fmt::Result {
+        let (kind, key) = (kind_word(self.view.name.kind), self.view.name.key.as_str());
+        let (held, version, end) = (self.view.held, self.view.version, self.view.end());
+        write!(f, "other {kind} {key} held={held} version={version} {end}")
+    }
+}
+
 impl View {
+    /// The end of the line.
+    fn end(&self) -> Held
+        ensures { result ≡ record { kind = self.now.name.kind; active = self.now.active;
+            members = self.now.members } }
+    {
+        Held {
+            kind: self.name.kind,
+            active: self.active,
+            members: self.members,
+        }
+    }
+
+    /// What the provider holds, as the line of a record that isn't ours.
+    pub(crate) fn of_others(&self) -> OthersRecord<'_>
+        ensures { result.view.now ≡ self.now }
+    {
+        OthersRecord { view: self }
+    }
+
     /// The view of a record with these revisions, and with the provider's row of it, if there is one.
     pub fn of(name: RecordName, wanted: Revision, confirmed: Revision, row: Option<&Stored>) -> View
         ensures { result ≡ viewed name wanted confirmed (option_copied row.entry) }
