@@ -60,6 +60,29 @@ impl fmt::Display for Held {
     }
 }
 
+/// What the provider holds of a record, in the line of a view.
+#[derive(Clone, Copy)]
+struct Holding<'a> {
+    view: &'a View,
+}
+
+impl fmt::Display for Holding<'_> {
+    ghost use Rattle.std.specs.Prelude.{Some};
+    ghost use Rattle.world_sim.specs.Lines.{holding_text};
+
+    ghost output = { λ holding. Some (holding_text holding.view.now) };
+
+    fn fmt<W: fmt::Write>(&self, f: &mut fmt::Formatter<W>) -> fmt::Result {
+        let (held, version) = (self.view.held, self.view.version);
+        let end = Held {
+            kind: self.view.name.kind,
+            active: self.view.active,
+            members: self.view.members,
+        };
+        write!(f, "held={held} version={version} {end}")
+    }
+}
+
 impl fmt::Display for View {
     ghost use Rattle.std.specs.Prelude.{Some};
     ghost use Rattle.world_sim.specs.Lines.{view_text};
@@ -70,9 +93,8 @@ impl fmt::Display for View {
     fn fmt<W: fmt::Write>(&self, f: &mut fmt::Formatter<W>) -> fmt::Result {
         let (kind, key) = (kind_word(self.name.kind), self.name.key.as_str());
         let (wanted, confirmed) = (self.wanted, self.confirmed);
-        let (held, version, end) = (self.held, self.version, self.end());
-        write!(f, "{kind} {key} wanted={wanted} confirmed={confirmed}")?;
-        write!(f, " held={held} version={version} {end}")
+        let holding = Holding { view: self };
+        write!(f, "{kind} {key} wanted={wanted} confirmed={confirmed} {holding}")
     }
 }
 
@@ -91,24 +113,12 @@ impl fmt::Display for OthersRecord<'_> {
     /// A line: `other user dee held=1 version=2 active=true`.
     fn fmt<W: fmt::Write>(&self, f: &mut fmt::Formatter<W>) -> fmt::Result {
         let (kind, key) = (kind_word(self.view.name.kind), self.view.name.key.as_str());
-        let (held, version, end) = (self.view.held, self.view.version, self.view.end());
-        write!(f, "other {kind} {key} held={held} version={version} {end}")
+        let holding = Holding { view: self.view };
+        write!(f, "other {kind} {key} {holding}")
     }
 }
 
 impl View {
-    /// The end of the line.
-    fn end(&self) -> Held
-        ensures { result ≡ record { kind = self.now.name.kind; active = self.now.active;
-            members = self.now.members } }
-    {
-        Held {
-            kind: self.name.kind,
-            active: self.active,
-            members: self.members,
-        }
-    }
-
     /// What the provider holds, as the line of a record that isn't ours.
     pub(crate) fn of_others(&self) -> OthersRecord<'_>
         ensures { result.view.now ≡ self.now }
