@@ -1,5 +1,5 @@
 -- Lines of acts that are printed one after the other, and the views of records that aren't ours.
-use Rattle.std.proofs.Common.{◌≡◌, ℕ, ◌+◌, Bool, true, false, List, [], ◌∷◌, ◌++◌, Option, Some, None, Result, Ok, Err, IfErr, inr, map, length, refl, ap, sym, subst, ◌∙◌, length-append}
+use Rattle.std.proofs.Common.{◌≡◌, ℕ, ◌+◌, Bool, true, false, List, [], ◌∷◌, ◌++◌, Option, Some, None, Result, Ok, Err, IfErr, inr, length, refl, ap, sym, subst, ◌∙◌, length-append}
 use Rattle.std.proofs.KnownBytes.{Appends-nil, Appends-trans}
 use Rattle.std.specs.Io.KnownBytes.{Appends}
 use Rattle.std.specs.List.{FoldsTo}
@@ -9,11 +9,11 @@ use Rattle.journal_core.specs.declared.journals.Journal.{Ghosts as Journals}
 use Rattle.mapping.specs.Settling.{IsSettleOrder}
 use Rattle.world_model.specs.Invariant.{Names}
 use Rattle.world_model.specs.Others.{run_among}
-use Rattle.world_model.specs.World.{World, empty, names as world_names, run}
+use Rattle.world_model.specs.World.{World, empty, run}
 use Rattle.world_sim.specs.Amid.{acts_of}
 use Rattle.world_sim.specs.FollowingAmong.{RunsTellingAmong}
 use Rattle.world_sim.specs.Printing.{SettlesIf, ShowsEach, others_lines, settled_lines, view_lines}
-use Rattle.world_sim.specs.PrintingAmong.{AreOfOthers, EndsAmong, EndsPrintingAmong, PrintsAct, PrintsAmong, ReachesAmong, ShowsOthers, act_line, act_lines, printed_acts}
+use Rattle.world_sim.specs.PrintingAmong.{EndsAmong, EndsPrintingAmong, PrintsAct, PrintsAmong, ReachesAmong, ShowsOthers, act_line, act_lines, printed_acts}
 use Rattle.world_sim.specs.Running.{IsAmong, IsSound, is_open, names_in}
 use Rattle.world_sim.specs.Strangers.{strangers}
 use Rattle.world_sim.specs.declared.acting.Act.{Act}

@@ -5,12 +5,10 @@ use Rattle.std.proofs.Math.Seq.{take-suc}
 use Rattle.std.proofs.lemmas.Map.Text.{is_eq-slice_cmp}
 use Rattle.std.specs.BTreeMap.{BTreeMap, Updates, get}
 use Rattle.std.specs.List.{AllByRecursion, filter_map, position_from}
-use Rattle.std.specs.Option.{option_map, unwrap_or}
+use Rattle.std.specs.Option.{unwrap_or}
 use Rattle.std.specs.Ordering.{is_eq}
 use Rattle.provider_core.proofs.RowLaws.{same_name-eq}
-use Rattle.scim_key.specs.Stores.{LeavesNoMore}
 use Rattle.scim_key.specs.declared.records.RecordName.{RecordName}
-use Rattle.scim_resource.specs.Contents.{content_name}
 use Rattle.scim_resource.specs.Rows.{StoredRecord}
 use Rattle.provider_core.specs.Calls.{Reads}
 use Rattle.provider_core.specs.Rows.{row_named}
@@ -19,11 +17,10 @@ use Rattle.source_csv.specs.Records.{members_of, row_name, user}
 use Rattle.source_csv.specs.declared.rows.Row.{Row}
 use Rattle.source_csv.specs.declared.rows.Row.TheVariants.{User, Group}
 use Rattle.mapping.specs.Images.{image_by, imaged}
-use Rattle.mapping.specs.Ready.{ready, unless_missing}
+use Rattle.mapping.specs.Ready.{unless_missing}
 use Rattle.connector_core.specs.Trees.{key_cmp}
 use Rattle.world_sim.specs.Imaging.{HasIdsOf, LooksUp, id_in, looked_up, request_told, row_request}
 use Rattle.world_sim.specs.Sides.{CountsWorldFault}
-use Rattle.world_sim.specs.declared.imaging.RowRequest.{RowRequest}
 use Rattle.world_sim.specs.declared.reports.WorldFault.{WorldFault}
 use Rattle.world_sim.specs.declared.reports.WorldFault.TheVariants.{Memory}
 

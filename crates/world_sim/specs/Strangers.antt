@@ -1,5 +1,5 @@
 -- Records that others write by rows.
-use Rattle.std.specs.Prelude.{Bool, true, false, if◌then◌else◌, List, [], ◌∷◌, ◌++◌, Option, Some, None, option_to_list}
+use Rattle.std.specs.Prelude.{Bool, false, if◌then◌else◌, List, [], ◌∷◌, ◌++◌, Option, Some, None, option_to_list}
 use Rattle.std.specs.List.{list_any}
 use Rattle.scim_key.specs.Records.{same_name}
 use Rattle.scim_key.specs.declared.records.RecordName.{RecordName}

@@ -94,7 +94,10 @@ impl fmt::Display for View {
         let (kind, key) = (kind_word(self.name.kind), self.name.key.as_str());
         let (wanted, confirmed) = (self.wanted, self.confirmed);
         let holding = Holding { view: self };
-        write!(f, "{kind} {key} wanted={wanted} confirmed={confirmed} {holding}")
+        write!(
+            f,
+            "{kind} {key} wanted={wanted} confirmed={confirmed} {holding}"
+        )
     }
 }
 

@@ -1,6 +1,5 @@
-use Rattle.std.proofs.Common.{Result, Ok, take}
+use Rattle.std.proofs.Common.{Ok, take}
 use Rattle.world_sim.specs.Imaging.{HasIdsOf, LooksUp}
-use Rattle.world_sim.specs.declared.reports.WorldFault.{WorldFault}
 use Rattle.world_sim.proofs.imaging.ids_of.Given as goal
 
 -- the ids of the members before this one were looked up
