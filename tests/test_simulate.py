@@ -41,7 +41,20 @@ cut 1  2
 restart
 restart both
 restart provider\x20
-settle"""
+settle
+other
+other\x20
+other user
+other group
+other bob,1,,,,,active
+other user bob
+other user bob,0,,,,,active
+other group crew,1,ann Ann
+other users bob,1,,,,,active
+other  user bob,1,,,,,active
+other send user bob
+other other user bob,1,,,,,active
+Other user bob,1,,,,,active"""
 
 
 class SimulateTest(ProgramTest):

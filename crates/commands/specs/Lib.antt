@@ -9,6 +9,7 @@ pub mod Running
 pub mod Looping
 pub mod Listening
 pub mod Simulations
+pub mod SimulationsAmong
 pub mod Manners
 pub mod Limits
 pub mod Planning

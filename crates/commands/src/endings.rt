@@ -56,7 +56,7 @@ pub fn run_status(ended: Result<Outcome, LoopFault>) -> Result<Status, CommandFa
 }
 
 /// Whether an event isn't a row that the connector refuses.
-fn is_taken(report: &Report) -> bool
+pub(crate) fn is_taken(report: &Report) -> bool
     ensures { result ≡ is_taken report.now }
 {
     !matches!(report, Report::Judged(Err(_)))
@@ -75,7 +75,7 @@ fn is_confirmed(view: &View) -> bool
     view.confirmed == view.wanted
 }
 
-fn are_confirmed(views: &[View]) -> bool
+pub(crate) fn are_confirmed(views: &[View]) -> bool
     ensures { result ≡ list_all is_confirmed views.now }
 {
     views.iter().all(|view| is_confirmed(view))

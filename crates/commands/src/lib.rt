@@ -17,6 +17,7 @@ mod resetting;
 mod serving;
 mod showing;
 pub mod simulating;
+mod simulating_among;
 mod simulation;
 mod status;
 pub mod words;
@@ -32,6 +33,9 @@ pub use pushing::{push, push_over};
 pub use resetting::reset;
 pub use serving::serve;
 pub use showing::show;
+pub use simulating_among::{
+    Schedule, acted_status, schedule_of, simulate_among, tell_contested,
+};
 pub use simulation::simulate;
 pub use status::{
     Cause, CommandFault, Part, Reason, Status, listen_fault, told, unread_fault, words_fault,

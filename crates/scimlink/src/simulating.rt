@@ -3,15 +3,17 @@ use crate::options::DEFAULT_BASE;
 use clap::ArgMatches;
 use commands::simulating::{Events, count, schedule, seed, settles, wanted_events};
 use commands::words::base_fault;
-use commands::{CommandFault, Part, Status, simulate as run_events, unread_fault};
+use commands::{
+    CommandFault, Part, Schedule, Status, schedule_of, simulate as run_events, simulate_among,
+    tell_contested, unread_fault,
+};
 use journal_core::MemoryJournal;
 use provider_core::MemoryRegistry;
 use scim_key::Base;
-use std::alloc::Global;
-use std::io::{BufWriter, Write};
+use std::io::BufWriter;
 use std::rt::Runtime;
 use std::{fs, io};
-use world_sim::{Event, ReportLines, random_schedule, read_schedule};
+use world_sim::{Act, ActLines, Event, ReportLines, random_schedule};
 
 /// Runs the events of a file, or random ones, and prints a report for each, then settles every record if asked
 /// to, and prints, for each record, what is wanted, confirmed and held.
@@ -21,38 +23,56 @@ pub fn simulate<R: Runtime + AllocGlobal>(
 ) -> Result<Status, CommandFault> {
     let events = wanted_events(schedule(words), seed(words), count(words))?;
     let base = Base::read(rt.alloc(), DEFAULT_BASE).map_err(base_fault)?;
-    let events = events_of(rt, events)?;
-    let out = BufWriter::new(rt.alloc(), io::writer(rt))?;
-    run(rt.alloc(), base, events.as_slice(), settles(words), out)
-}
-
-/// The events of a schedule's file, or random ones.
-fn events_of<R: Runtime + AllocGlobal>(
-    rt: &R,
-    events: Events<'_>,
-) -> Result<Vec<Event>, CommandFault> {
     match events {
-        Events::Scheduled(file) => events_in(rt, file),
-        Events::Random { seed, count } => Ok(random_schedule(rt.alloc(), seed, count)?),
+        Events::Scheduled(file) => scheduled(rt, base, file, settles(words)),
+        Events::Random { seed, count } => {
+            let events = random_schedule(rt.alloc(), seed, count)?;
+            run(rt, base, events.as_slice(), settles(words))
+        }
     }
 }
 
-/// The events of a schedule's file.
-fn events_in<R: Runtime + AllocGlobal>(rt: &R, file: &str) -> Result<Vec<Event>, CommandFault> {
+/// Runs the schedule in a file.
+fn scheduled<R: Runtime + AllocGlobal>(
+    rt: &R,
+    base: Base,
+    file: &str,
+    settles: bool,
+) -> Result<Status, CommandFault> {
     let text = fs::read_to_string(rt, file).map_err(|error| unread_fault(Part::File, error))?;
-    Ok(read_schedule(rt.alloc(), text.as_str())?)
+    match schedule_of(rt.alloc(), text.as_str())? {
+        Schedule::Alone(events) => run(rt, base, events.as_slice(), settles),
+        Schedule::Among(acts) => {
+            tell_contested(rt, rt.alloc(), text.as_str(), acts.as_slice())?;
+            run_among(rt, base, acts.as_slice(), settles)
+        }
+    }
 }
 
 /// Runs these events over stores in memory.
-fn run<W: Write + Drop>(
-    alloc: Global,
+fn run<R: Runtime + AllocGlobal>(
+    rt: &R,
     base: Base,
     events: &[Event],
     settles: bool,
-    out: W,
 ) -> Result<Status, CommandFault> {
-    let registry = MemoryRegistry::new(alloc);
-    let journal = MemoryJournal::new(alloc);
-    let mut lines = ReportLines::new(alloc, out);
-    run_events(alloc, registry, journal, base, events, settles, &mut lines)
+    let out = BufWriter::new(rt.alloc(), io::writer(rt))?;
+    let registry = MemoryRegistry::new(rt.alloc());
+    let journal = MemoryJournal::new(rt.alloc());
+    let mut lines = ReportLines::new(rt.alloc(), out);
+    run_events(rt.alloc(), registry, journal, base, events, settles, &mut lines)
+}
+
+/// Runs these acts over stores in memory.
+fn run_among<R: Runtime + AllocGlobal>(
+    rt: &R,
+    base: Base,
+    acts: &[Act],
+    settles: bool,
+) -> Result<Status, CommandFault> {
+    let out = BufWriter::new(rt.alloc(), io::writer(rt))?;
+    let registry = MemoryRegistry::new(rt.alloc());
+    let journal = MemoryJournal::new(rt.alloc());
+    let mut lines = ActLines::new(rt.alloc(), out);
+    simulate_among(rt.alloc(), registry, journal, base, acts, settles, &mut lines)
 }

@@ -16,7 +16,7 @@ use Rattle.journal_core.specs.declared.journals.Journal.{Ghosts as Journals}
 use Rattle.world_model.specs.Others.{Theirs, acts}
 use Rattle.world_model.specs.Safe.{rows as world_rows}
 use Rattle.world_model.specs.World.{World}
-use Rattle.world_sim.specs.Acts.{Answers, FailsToAnswer, IsExcusedTo, write_of, write_request}
+use Rattle.world_sim.specs.Acts.{Answers, FailsToAnswer, FailsToMake, IsExcusedTo, write_of, write_request}
 use Rattle.world_sim.specs.GoingOn.{unknown_rows}
 use Rattle.world_sim.specs.Running.{HoldsOneOf, IsSound, Mirrors}
 use Rattle.world_sim.specs.Sides.{CountsWorldFault}
@@ -30,10 +30,10 @@ excused_to g old new Store counted = inr counted.1
 excused_to g old new Memory counted = counted
 
 module _ {R J : Type 0} (g : Registries R) (h : Journals J) (old : Running R J) (provider : R) where
-  sound_old : (g.is_honest provider → g.is_honest old.provider) → IsSound g h (record old { provider = provider }) → IsSound g h old
+  pub sound_old : (g.is_honest provider → g.is_honest old.provider) → IsSound g h (record old { provider = provider }) → IsSound g h old
   sound_old was sound = record { registry = was sound.registry; journal = sound.journal }
 
-  unknown_now : (w : World) → Mirrors (unknown_rows g) h old w → Mirrors (unknown_rows g) h (record old { provider = provider }) w
+  pub unknown_now : (w : World) → Mirrors (unknown_rows g) h old w → Mirrors (unknown_rows g) h (record old { provider = provider }) w
   unknown_now w m = record {
     rows = λ never. absurd never;
     found = λ found never. absurd never;
@@ -107,14 +107,14 @@ module _ {R J : Type 0} (g : Registries R) (h : Journals J) (old : Running R J) 
     formed = m.formed;
   }
 
-  -- the registry wasn't read
-  pub theirs_unread : (request : Request) (fault : WorldFault)
+  -- the registry wasn't written
+  pub unmade : (made : World → World) (fault : WorldFault)
       → (g.is_honest provider → g.is_honest old.provider) → (g.is_faithful provider → g.is_faithful old.provider)
       → (g.is_faithful provider → g.rows provider ≡ g.rows old.provider)
       → (g.is_honest provider → LeavesNoMore (g.may_hold old.provider) (g.may_hold provider))
       → IsExcusedTo g old (record old { provider = provider }) fault
-      → FailsToAnswer g h old (record old { provider = provider }) request fault
-  theirs_unread request fault was was_open same stop excused = record {
+      → FailsToMake g h old (record old { provider = provider }) made fault
+  unmade made fault was was_open same stop excused = record {
     was = sound_old was;
     is = λ sound known w m. still_now w (λ faithful. same faithful ∙ m.rows (was_open faithful)) (λ found holds. m.found found (stop sound.registry found holds)) m;
     leaves = λ sound w m. record {
@@ -125,13 +125,31 @@ module _ {R J : Type 0} (g : Registries R) (h : Journals J) (old : Running R J) 
     excused = excused;
   }
 
+  -- the registry wasn't read
+  pub theirs_unread : (request : Request) (fault : WorldFault)
+      → (g.is_honest provider → g.is_honest old.provider) → (g.is_faithful provider → g.is_faithful old.provider)
+      → (g.is_faithful provider → g.rows provider ≡ g.rows old.provider)
+      → (g.is_honest provider → LeavesNoMore (g.may_hold old.provider) (g.may_hold provider))
+      → IsExcusedTo g old (record old { provider = provider }) fault
+      → FailsToAnswer g h old (record old { provider = provider }) request fault
+  theirs_unread request fault was was_open same stop excused = unmade (λ w. acts w (Theirs request)) fault was was_open same stop excused
+
+  -- the registry couldn't be read
+  pub unread : (made : World → World) (fault : WorldFault)
+      → (g.is_honest provider → g.is_honest old.provider) → (g.is_faithful provider → g.is_faithful old.provider)
+      → (g.is_faithful provider → g.rows provider ≡ g.rows old.provider)
+      → (g.is_honest provider → LeavesNoMore (g.may_hold old.provider) (g.may_hold provider))
+      → CountsWorldFault (g.faults old.provider) (g.faults provider) fault
+      → FailsToMake g h old (record old { provider = provider }) made fault
+  unread made fault was was_open same stop counted = unmade made fault was was_open same stop (excused_to g old (record old { provider = provider }) fault counted)
+
   pub theirs_to_read : (request : Request) (fault : WorldFault)
       → (g.is_honest provider → g.is_honest old.provider) → (g.is_faithful provider → g.is_faithful old.provider)
       → (g.is_faithful provider → g.rows provider ≡ g.rows old.provider)
       → (g.is_honest provider → LeavesNoMore (g.may_hold old.provider) (g.may_hold provider))
       → CountsWorldFault (g.faults old.provider) (g.faults provider) fault
       → FailsToAnswer g h old (record old { provider = provider }) request fault
-  theirs_to_read request fault was was_open same stop counted = theirs_unread request fault was was_open same stop (excused_to g old (record old { provider = provider }) fault counted)
+  theirs_to_read request fault was was_open same stop counted = unread (λ w. acts w (Theirs request)) fault was was_open same stop counted
 
   -- the registry was read, and its write failed
   pub theirs_to_write : (mid : R) (pending : Outcome) (request : Request) (fault : WorldFault)
@@ -178,10 +196,10 @@ pub record IsRead {R : Type 0} (g : Registries R) (before after : R) : Type 0 wh
   pub counted : g.faults after ≡ g.faults before
 
 module _ {R J : Type 0} (g : Registries R) (h : Journals J) (old : Running R J) (mid : R) (read : IsRead g old.provider mid) where
-  looked : IsSound g h (record old { provider = mid }) → (w : World) → Mirrors g h old w → Mirrors g h (record old { provider = mid }) w
+  pub looked : IsSound g h (record old { provider = mid }) → (w : World) → Mirrors g h old w → Mirrors g h (record old { provider = mid }) w
   looked sound w m = still_now g h old mid w (λ faithful. read.same faithful ∙ m.rows (read.was faithful)) (λ found holds. m.found found (read.stop sound.registry found holds)) m
 
-  looked_excuse : (new : Running R J) (fault : WorldFault) → IsExcusedTo g (record old { provider = mid }) new fault → IsExcusedTo g old new fault
+  pub looked_excuse : (new : Running R J) (fault : WorldFault) → IsExcusedTo g (record old { provider = mid }) new fault → IsExcusedTo g old new fault
   looked_excuse new Memory same = same ∙ read.counted
   looked_excuse new Store (inl shut) = inl shut
   looked_excuse new Store (inr risen) = inr (subst (λ n. HasRisen n (g.faults new.provider)) read.counted risen)

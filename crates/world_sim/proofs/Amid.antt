@@ -1,5 +1,5 @@
 -- Runs among others: one act, one act more, and from empty stores.
-use Rattle.std.proofs.Common.{arith, ◌≡◌, ◌<◌, ◌+◌, ◌⊎◌, ℕ, suc, true, false, List, [], ◌∷◌, ◌++◌, Option, Some, None, Result, Ok, Err, IfErr, OnOk, map, length, take, drop, refl, ap, sym, subst, inl, inr, ◌∙◌}
+use Rattle.std.proofs.Common.{arith, ◌≡◌, ◌<◌, ◌+◌, ℕ, suc, false, List, [], ◌∷◌, ◌++◌, Option, Some, None, map, length, take, drop, refl, ap, sym, subst, inl, ◌∙◌, append-nil}
 use Rattle.std.proofs.Math.ListN.{get_or}
 use Rattle.std.proofs.Math.Seq.{take-suc}
 use Rattle.std.proofs.lemmas.List.{append_assoc, map_push, take-append-drop}
@@ -9,6 +9,14 @@ use Rattle.scim_message.specs.declared.messages.Request.{Request}
 use Rattle.scim_resource.specs.Contents.{content_name}
 use Rattle.scim_resource.specs.Rows.{StoredRecord}
 use Rattle.scim_resource.specs.declared.contents.Content.{Content}
+use Rattle.source_csv.specs.Records.{row_name}
+use Rattle.source_csv.specs.Rows.{GroupFields}
+use Rattle.source_csv.specs.declared.rows.Row.{Row}
+use Rattle.source_csv.specs.declared.rows.Row.TheVariants.{User, Group}
+use Rattle.mapping.specs.Images.{group_image, image_by, user_image}
+use Rattle.mapping.specs.Ready.{ready}
+use Rattle.mapping.specs.declared.ids.Ready.{Ready}
+use Rattle.mapping.specs.declared.ids.Ready.TheVariants.{Ids, Waits}
 use Rattle.provider_core.specs.Rows.{row_named}
 use Rattle.provider_core.specs.Stories.{step}
 use Rattle.provider_core.specs.declared.registry.Registry.{Ghosts as Registries}
@@ -20,24 +28,27 @@ use Rattle.world_model.specs.Safe.{Onward, rows as world_rows}
 use Rattle.world_model.specs.World.{World, Message, empty, happens, run}
 use Rattle.world_model.proofs.Headlines.{headline_holds, headline_holds_among}
 use Rattle.world_model.proofs.Invariant.{all_of_ours}
-use Rattle.world_model.proofs.Onwards.{always_onward, always_onward_among}
+use Rattle.world_model.proofs.Onwards.{always_onward, always_onward_among, among-append}
 use Rattle.world_model.proofs.Others.{without_others}
 use Rattle.world_model.proofs.Safety.{always_safe, always_safe_among}
 use Rattle.world_sim.specs.Acts.{Answers, write_of, write_request}
-use Rattle.world_sim.specs.Amid.{ActReport, Of_ours, Of_others, Does, EndsRunAmong, FailsToDo, IsApartFrom, IsKept, RunsAlone, RunsAmong, RunsAmongFromEmpty, act_of, act_report, act_report_of, act_reports, acts_of}
+use Rattle.world_sim.specs.Amid.{ActReport, Of_ours, Of_others, Of_waiting, Does, FailsToDo, IsApartFrom, RunsAlone, RunsAmong, RunsAmongFromEmpty, act_of, act_report, act_report_of, act_reports, acts_of, after_act, asked_by, row_report}
 use Rattle.world_sim.specs.Events.{event_of, events_of, report_of}
+use Rattle.world_sim.specs.Imaging.{id_in, request_told, row_request}
 use Rattle.world_sim.specs.Messages.{message_size}
-use Rattle.world_sim.specs.Running.{Happens, IsAmong, IsSound, Starts, journal_in, opens_of}
-use Rattle.world_sim.specs.Sides.{CountsWorldFault}
+use Rattle.world_sim.specs.Running.{Happens, HoldsOneOf, IsAmong, IsSound, Mirrors, Starts, journal_in}
 use Rattle.world_sim.specs.declared.acting.Act.{Act as ActOf}
 use Rattle.world_sim.specs.declared.acting.Act.TheVariants as deeds
 use Rattle.world_sim.specs.declared.acting.ActReport.{ActReport as ActReportOf}
 use Rattle.world_sim.specs.declared.acting.ActReport.TheVariants as told
 use Rattle.world_sim.specs.declared.events.Event.{Event as EventOf}
+use Rattle.world_sim.specs.declared.imaging.RowRequest.{RowRequest}
+use Rattle.world_sim.specs.declared.imaging.RowRequest.TheVariants as requests
 use Rattle.world_sim.specs.declared.reports.Report.{Report as ReportOf}
 use Rattle.world_sim.specs.declared.reports.WorldFault.{WorldFault}
-use Rattle.world_sim.specs.declared.reports.WorldFault.TheVariants.{Memory, Store}
+use Rattle.world_sim.specs.declared.reports.WorldFault.TheVariants.{Memory}
 use Rattle.world_sim.specs.declared.worlds.World.{World as Running}
+use Rattle.world_sim.proofs.Acts.{IsRead, looked, looked_excuse, sound_old, unknown_now}
 use Rattle.world_sim.proofs.Reaching.{is_at, is_of_ours}
 use Rattle.world_sim.proofs.WholeRuns.{all_back, all_front}
 
@@ -47,37 +58,61 @@ write_apart : (ours : Names) (found : Option StoredRecord) (content : Content) �
 write_apart ours None content apart = apart
 write_apart ours (Some row) content apart = apart
 
-apart_act : (ours : Names) (w : World) (act : ActOf) → IsApartFrom ours act → IsApart ours (act_of w act)
-apart_act ours w (deeds.Ours event) apart = apart
-apart_act ours w (deeds.Asks request) apart = apart
-apart_act ours w (deeds.Writes content) apart = write_apart ours (row_named (content_name content) (world_rows w)) content apart
+-- what is asked for by a row is written under the row's name
+group_apart : (ours : Names) (row : GroupFields) (held : Option StoredRecord) (found : Ready) → ours (row_name (Group row)) ≡ false
+    → KeepsApart ours (asked_by (request_told (Group row) held (image_by found row)))
+group_apart ours row held (Ids ids) apart = (write_apart ours held (group_image ids row) apart, tt)
+group_apart ours row held (Waits place) apart = tt
+
+row_apart : (ours : Names) (rows : List StoredRecord) (row : Row) → ours (row_name row) ≡ false → KeepsApart ours (asked_by (row_request rows row))
+row_apart ours rows (User row) apart = (write_apart ours (row_named (row_name (User row)) rows) (user_image row) apart, tt)
+row_apart ours rows (Group row) apart = group_apart ours row (row_named (row_name (Group row)) rows) (ready (id_in rows) row.members) apart
+
+apart_act : (ours : Names) (w : World) (act : ActOf) → IsApartFrom ours act → KeepsApart ours (act_of w act)
+apart_act ours w (deeds.Ours event) apart = (apart, tt)
+apart_act ours w (deeds.Asks request) apart = (apart, tt)
+apart_act ours w (deeds.Writes content) apart = (write_apart ours (row_named (content_name content) (world_rows w)) content apart, tt)
+apart_act ours w (deeds.WritesRow row) apart = row_apart ours (world_rows w) row apart
+
+all_both : {X : Type 0} (P : X → Type 0) (xs ys : List X) → AllByRecursion P xs → AllByRecursion P ys → AllByRecursion P (xs ++ ys)
+all_both P [] ys front back = back
+all_both P (x ∷ xs) ys front back = (front.0, all_both P xs ys front.1 back)
 
 apart_acts : (ours : Names) (w : World) (all : List ActOf) → AllByRecursion (IsApartFrom ours) all → KeepsApart ours (acts_of w all)
 apart_acts ours w [] apart = tt
-apart_acts ours w (act ∷ all) apart = (apart_act ours w act apart.0, apart_acts ours (acts w (act_of w act)) all apart.1)
+apart_acts ours w (act ∷ all) apart = all_both (IsApart ours) (act_of w act) (acts_of (after_act w act) all) (apart_act ours w act apart.0) (apart_acts ours (after_act w act) all apart.1)
 
 among-more : (w : World) (early : List ActOf) (act : ActOf)
-    → run_among w (acts_of w (early ++ act ∷ [])) ≡ acts (run_among w (acts_of w early)) (act_of (run_among w (acts_of w early)) act)
-among-more w [] act = refl
-among-more w (a ∷ early) act = among-more (acts w (act_of w a)) early act
+    → run_among w (acts_of w (early ++ act ∷ [])) ≡ after_act (run_among w (acts_of w early)) act
+among-more w [] act = ap (run_among w) (append-nil (act_of w act))
+among-more w (a ∷ early) act =
+    among-append w (act_of w a) (acts_of (after_act w a) (early ++ act ∷ []))
+    ∙ among-more (after_act w a) early act
+    ∙ ap (λ v. after_act v act) (sym (among-append w (act_of w a) (acts_of (after_act w a) early)))
 
 reports-more : (size : Message → ℕ) (w : World) (early : List ActOf) (act : ActOf)
     → act_reports size w (early ++ act ∷ []) ≡ act_reports size w early ++ act_report size (run_among w (acts_of w early)) act ∷ []
 reports-more size w [] act = refl
-reports-more size w (a ∷ early) act = ap (λ rs. act_report size w a ∷ rs) (reports-more size (acts w (act_of w a)) early act)
+reports-more size w (a ∷ early) act =
+    ap (λ rs. act_report size w a ∷ rs) (reports-more size (after_act w a) early act)
+    ∙ ap (λ v. act_report size w a ∷ (act_reports size (after_act w a) early ++ act_report size v act ∷ [])) (sym (among-append w (act_of w a) (acts_of (after_act w a) early)))
 
 acts-append : (w : World) (early late : List ActOf) → acts_of w (early ++ late) ≡ acts_of w early ++ acts_of (run_among w (acts_of w early)) late
 acts-append w [] late = refl
-acts-append w (a ∷ early) late = ap (λ l. act_of w a ∷ l) (acts-append (acts w (act_of w a)) early late)
+acts-append w (a ∷ early) late =
+    let rest = acts_of (after_act w a) early in
+    ap (λ l. act_of w a ++ l) (acts-append (after_act w a) early late)
+    ∙ sym (append_assoc (act_of w a) rest (acts_of (run_among (after_act w a) rest) late))
+    ∙ ap (λ v. (act_of w a ++ rest) ++ acts_of v late) (sym (among-append w (act_of w a) rest))
 
 -- ---- a walk over acts
 
-acts_next : (all : List ActOf) (i : ℕ) (act : ActOf) → i < length all → act ≡ get_or all i act → take (i + 1) all ≡ take i all ++ act ∷ []
+pub acts_next : (all : List ActOf) (i : ℕ) (act : ActOf) → i < length all → act ≡ get_or all i act → take (i + 1) all ≡ take i all ++ act ∷ []
 acts_next all i act less at =
     let next : i + 1 ≡ suc i = omega arith in
     ap (λ n. take n all) next ∙ take-suc all i act less ∙ ap (λ a. take i all ++ a ∷ []) (sym at)
 
-acts_split : (all : List ActOf) (i : ℕ) (act : ActOf) → i < length all → act ≡ get_or all i act → all ≡ take i all ++ act ∷ drop (i + 1) all
+pub acts_split : (all : List ActOf) (i : ℕ) (act : ActOf) → i < length all → act ≡ get_or all i act → all ≡ take i all ++ act ∷ drop (i + 1) all
 acts_split all i act less at =
     sym (take-append-drop (i + 1) all) ∙ ap (λ early. early ++ drop (i + 1) all) (acts_next all i act less at)
     ∙ append_assoc (take i all) (act ∷ []) (drop (i + 1) all)
@@ -97,6 +132,7 @@ abbrev ours_among : List ActReport → List Report
 ours_among [] = []
 ours_among (Of_ours report ∷ said) = report ∷ ours_among said
 ours_among (Of_others status ∷ said) = ours_among said
+ours_among (Of_waiting member ∷ said) = ours_among said
 
 alone_said : (said : List ReportOf) → ours_among (map act_report_of (map told.Ours said)) ≡ map report_of said
 alone_said [] = refl
@@ -161,16 +197,61 @@ module _ {R J : Type 0} (g : Registries R) (h : Journals J) where
     sent = refl;
   }
 
-  -- an act was done, and its report was kept or not
-  pub kept_told : {T F : Type 0} (result : Result T F) (old new : Running R J) (act : ActOf) (before after : List ActReportOf) (report : ActReportOf)
-      → Does g h old new act report → OnOk result (after ≡ before ++ report ∷ []) → OnOk result (IsKept g h old new act before after)
-  kept_told (Ok x) old new act before after report does added = record { report = report; does = does; added = added }
-  kept_told (Err fault) old new act before after report does added = tt
+  -- ---- a row that others write
 
-  pub unkept_told : {T : Type 0} (result : Result T WorldFault) (old new : Running R J) (act : ActOf) → IfErr result (λ fault. fault ≡ Memory)
-      → IfErr result (λ fault. (fault ≡ Memory) ⊎ FailsToDo g h old new act fault)
-  unkept_told (Ok x) old new act memory = tt
-  unkept_told (Err fault) old new act memory = inl memory
+  module _ (old : Running R J) (mid : R) (read : IsRead g old.provider mid) (row : Row) where
+    abbrev pub midway : Running R J
+    midway = record old { provider = mid }
+
+    is_midway : IsSound g h midway → {ours : Names} (w : World) → IsAmong g h ours old w → IsAmong g h ours midway w
+    is_midway sound w is = record { mirrors = looked g h old mid read sound w is.mirrors; base = is.base; reached = is.reached }
+
+    module _ (asks : RowRequest) (finds : g.is_faithful mid → asks ≡ row_request (g.rows old.provider) row) where
+      is_asked : IsSound g h midway → (w : World) → Mirrors g h old w → asks ≡ row_request (world_rows w) row
+      is_asked sound w m = finds (read.opened sound.registry) ∙ ap (λ rows. row_request rows row) (m.rows (read.was (read.opened sound.registry)))
+
+    pub row_waits : (member : List ℕ) → (g.is_faithful mid → requests.Waits member ≡ row_request (g.rows old.provider) row) → Does g h old midway (deeds.WritesRow row) (told.Waits member)
+    row_waits member finds = record {
+      was = λ sound. sound_old g h old mid read.honest sound;
+      base = refl;
+      stays_open = λ sound faithful. read.opened sound.registry;
+      journal_open = λ sound faithful. faithful;
+      is = λ sound w is apart. after sound w is;
+      report = λ sound w is. ap (row_report w) (is_asked (requests.Waits member) finds sound w is.mirrors);
+    }
+      where
+        after : IsSound g h midway → {ours : Names} (w : World) → IsAmong g h ours old w → IsAmong g h ours midway (after_act w (deeds.WritesRow row))
+        after sound {ours} w is = subst (λ asks. IsAmong g h ours midway (run_among w (asked_by asks))) (is_asked (requests.Waits member) finds sound w is.mirrors) (is_midway sound w is)
+
+    module _ (new : Running R J) (request : Request) (finds : g.is_faithful mid → requests.Asks request ≡ row_request (g.rows old.provider) row) where
+      pub row_written : (said : ActReportOf) → Does g h midway new (deeds.Asks request) said → Does g h old new (deeds.WritesRow row) said
+      row_written said a = record {
+        was = λ sound. sound_old g h old mid read.honest (a.was sound);
+        base = a.base;
+        stays_open = λ sound faithful. a.stays_open sound (read.opened (a.was sound).registry);
+        journal_open = λ sound faithful. a.journal_open sound faithful;
+        is = λ sound w is apart. after sound w is apart;
+        report = λ sound w is. a.report sound w (is_midway (a.was sound) w is) ∙ ap (row_report w) (is_asked (requests.Asks request) finds (a.was sound) w is.mirrors);
+      }
+        where
+          after : IsSound g h new → {ours : Names} (w : World) → IsAmong g h ours old w → ours (row_name row) ≡ false → IsAmong g h ours new (after_act w (deeds.WritesRow row))
+          after sound {ours} w is apart =
+              let asked = is_asked (requests.Asks request) finds (a.was sound) w is.mirrors in
+              let alone = subst (λ asks. KeepsApart ours (asked_by asks)) (sym asked) (row_apart ours (world_rows w) row apart) in
+              subst (λ asks. IsAmong g h ours new (run_among w (asked_by asks))) asked (a.is sound w (is_midway (a.was sound) w is) alone.0)
+
+      pub row_unwritten : (fault : WorldFault) → FailsToDo g h midway new (deeds.Asks request) fault → FailsToDo g h old new (deeds.WritesRow row) fault
+      row_unwritten fault f = record {
+        fails = record {
+          was = λ sound. sound_old g h old mid read.honest (f.fails.was sound);
+          is = λ sound known w m. f.fails.is sound known w (looked g h old mid read (f.fails.was sound) w m);
+          leaves = λ sound w m. subst (λ asks. HoldsOneOf g h new w (run_among w (asked_by asks))) (is_asked (requests.Asks request) finds (f.fails.was sound) w m) (f.fails.leaves sound w (looked g h old mid read (f.fails.was sound) w m));
+          rows_unknown = λ w m. f.fails.rows_unknown w (unknown_now g h old mid w m);
+          excused = looked_excuse g h old mid read new fault f.fails.excused;
+        };
+        connector = f.connector;
+        sent = f.sent;
+      }
 
   -- ---- acts one after the other
 
@@ -184,7 +265,7 @@ module _ {R J : Type 0} (g : Registries R) (h : Journals J) where
     told_so = λ sound w is apart. refl;
   }
 
-  among_on : (old mid new : Running R J) (early : List ActOf) (act : ActOf) (said : List ActReportOf) (last : ActReportOf)
+  pub among_on : (old mid new : Running R J) (early : List ActOf) (act : ActOf) (said : List ActReportOf) (last : ActReportOf)
       → RunsAmong g h old mid early said → Does g h mid new act last → RunsAmong g h old new (early ++ act ∷ []) (said ++ last ∷ [])
   among_on old mid new early act said last ran more = record {
     was = λ sound. ran.was (more.was sound);
@@ -213,13 +294,6 @@ module _ {R J : Type 0} (g : Registries R) (h : Journals J) where
           ∙ ap (λ rs. rs ++ act_report_of last ∷ []) before
           ∙ ap (λ r. act_reports (message_size old.service) w early ++ r ∷ []) (one ∙ ap (λ b. act_report (message_size b) (run_among w (acts_of w early)) act) ran.base)
           ∙ sym (reports-more (message_size old.service) w early act)
-
-  -- one act more, whose report is kept
-  pub among_kept : (old mid new : Running R J) (all : List ActOf) (i : ℕ) (act : ActOf) (before after : List ActReportOf) → i < length all → act ≡ get_or all i act
-      → RunsAmong g h old mid (take i all) before → IsKept g h mid new act before after → RunsAmong g h old new (take (i + 1) all) after
-  among_kept old mid new all i act before after less at ran kept =
-      subst (λ l. RunsAmong g h old new l after) (sym (acts_next all i act less at))
-      (subst (λ s. RunsAmong g h old new (take i all ++ act ∷ []) s) (sym kept.added) (among_on old mid new (take i all) act before kept.report ran kept.does))
 
   -- ---- whole runs
 
@@ -260,32 +334,3 @@ module _ {R J : Type 0} (g : Registries R) (h : Journals J) where
         onward = λ early middle late _. always_onward early middle;
         headline = λ early middle late _. headline_holds early middle;
       }
-
-  -- ---- runs that ended early
-
-  -- a run that didn't start
-  pub among_unstarted : (registry : R) (journal left : J) (base : List ℕ) (all : List ActOf) (fault : WorldFault) → CountsWorldFault (h.faults journal) (h.faults left) fault
-      → EndsRunAmong g h registry journal base all fault
-  among_unstarted registry journal left base all Memory counts = inl refl
-  among_unstarted registry journal left base all Store counts = inr (inl (left, counts.1))
-
-  -- a run up to an act that failed, or whose report wasn't kept
-  pub among_ends : (first last left : Running R J) (registry : R) (journal : J) (base : List ℕ) (all : List ActOf) (i : ℕ) (act : ActOf) (said : List ActReportOf) (fault : WorldFault)
-      → i < length all → act ≡ get_or all i act → first.service ≡ base → opens_of first ≡ (true, true) → Starts g h registry journal first → RunsAmong g h first last (take i all) said
-      → (fault ≡ Memory) ⊎ FailsToDo g h last left act fault → EndsRunAmong g h registry journal base all fault
-  among_ends first last left registry journal base all i act said fault less is at opens starts runs (inl memory) = inl memory
-  among_ends first last left registry journal base all i act said fault less is at opens starts runs (inr fails) = inr (inr (record {
-    first = first;
-    last = last;
-    left = left;
-    early = take i all;
-    act = act;
-    late = drop (i + 1) all;
-    said = said;
-    split = acts_split all i act less is;
-    base_is = at;
-    opens = opens;
-    starts = starts;
-    runs = runs;
-    fails = fails;
-  }))

@@ -12,12 +12,13 @@ use Rattle.journal_core.specs.declared.journals.Journal.{Ghosts as Journals}
 use Rattle.world_model.specs.Invariant.{Names, all_names}
 use Rattle.world_model.specs.World.{World, Event, empty, names as world_names, run}
 use Rattle.world_sim.specs.Following.{RunsTelling}
-use Rattle.world_sim.specs.Printing.{Ends, EndsPrinting, Prints, PrintsReport, Reaches, SettlesIf, ShowsAll, printed_reports, report_line, report_lines, settled_lines, view_line, view_lines}
+use Rattle.world_sim.specs.Printing.{Ends, EndsPrinting, Prints, PrintsReport, Reaches, SettlesIf, ShowsAll, ShowsEach, line_of, lines_of, printed_reports, report_line, report_lines, settled_lines, view_lines}
 use Rattle.world_sim.specs.Running.{HasBook, Is, IsAmong, IsSound, is_open, names_in}
 use Rattle.world_sim.specs.Views.{Looks, Shows, view}
 use Rattle.world_sim.specs.declared.following.TellingFault.{TellingFault}
 use Rattle.world_sim.specs.declared.printing.Printed.{Printed}
 use Rattle.world_sim.specs.declared.printing.ReportLines.{ReportLines}
+use Rattle.world_sim.specs.declared.printing.Whose.{Whose}
 use Rattle.world_sim.specs.declared.reports.Report.{Report}
 use Rattle.world_sim.specs.declared.settling.Count.{Count}
 use Rattle.world_sim.specs.declared.sides.Side.{Side}
@@ -40,25 +41,19 @@ lines_printed contents old (report ∷ reports) new (mid, one, rest) =
 
 -- ---- the views of records
 
-pub view_lines-push : (views : List View) (shown : View) → view_lines (views ++ shown ∷ []) ≡ view_lines views ++ view_line shown
-view_lines-push [] shown = append-nil (view_line shown)
-view_lines-push (first ∷ views) shown = ap (λ l. view_line first ++ l) (view_lines-push views shown) ∙ sym (append_assoc (view_line first) (view_lines views) (view_line shown))
-
--- the records before this place were shown
-pub record AreShownSoFar {R J : Type 0} (g : Registries R) (h : Journals J) (old new : Running R J) (names : List RecordName) (views : List View) : Type 0 where
-  pub was : IsSound g h new → IsSound g h old
-  pub is : IsSound g h new → {ours : Names} (w : World) → IsAmong g h ours old w → IsAmong g h ours new w
-  pub shown : IsSound g h new → {ours : Names} (w : World) → IsAmong g h ours old w → views ≡ map (view w) names
+pub lines_of-push : (of : Whose) (views : List View) (shown : View) → lines_of of (views ++ shown ∷ []) ≡ lines_of of views ++ line_of of shown
+lines_of-push of [] shown = append-nil (line_of of shown)
+lines_of-push of (first ∷ views) shown = ap (λ l. line_of of first ++ l) (lines_of-push of views shown) ∙ sym (append_assoc (line_of of first) (lines_of of views) (line_of of shown))
 
 module _ {R J : Type 0} (g : Registries R) (h : Journals J) where
-  pub none_shown : (r : Running R J) → AreShownSoFar g h r r [] []
+  pub none_shown : (r : Running R J) → ShowsEach g h r r [] []
   none_shown r = record { was = λ sound. sound; is = λ sound w is. is; shown = λ sound w is. refl }
 
   pub one_shown : (old mid new : Running R J) (names : List RecordName) (i : ℕ) (name : RecordName) (views : List View) (one : View) → i < length names → name ≡ get_or names i name
-      → AreShownSoFar g h old mid (take i names) views → Shows g h mid new name one → Looks g h mid new → AreShownSoFar g h old new (take (i + 1) names) (views ++ one ∷ [])
+      → ShowsEach g h old mid (take i names) views → Shows g h mid new name one → Looks g h mid new → ShowsEach g h old new (take (i + 1) names) (views ++ one ∷ [])
   one_shown old mid new names i name views one less at far shows looks =
       let next : take (i + 1) names ≡ take i names ++ name ∷ [] = (let one_on : i + 1 ≡ suc i = omega arith in ap (λ n. take n names) one_on ∙ take-suc names i name less ∙ ap (λ n. take i names ++ n ∷ []) (sym at)) in
-      subst (λ ns. AreShownSoFar g h old new ns (views ++ one ∷ [])) (sym next) (record {
+      subst (λ ns. ShowsEach g h old new ns (views ++ one ∷ [])) (sym next) (record {
         was = λ sound. far.was (looks.was sound);
         is = λ sound w is. looks.is sound w (far.is (looks.was sound) w is);
         shown = λ sound w is. all_of sound w is;
@@ -79,7 +74,7 @@ module _ {R J : Type 0} (g : Registries R) (h : Journals J) where
       of_side (Shut journal) opened book = let clash : false ≡ true = opened in absurd (cc)
 
   pub all_shown : (old new : Running R J) (names : List RecordName) (views : List View) → names ≡ names_in h old.connector → is_open old.connector ≡ true
-      → AreShownSoFar g h old new names views → ShowsAll g h old new views
+      → ShowsEach g h old new names views → ShowsAll g h old new views
   all_shown old new names views are opened far = record {
     was = far.was;
     is = far.is;
@@ -88,7 +83,7 @@ module _ {R J : Type 0} (g : Registries R) (h : Journals J) where
 
   -- ---- the whole run
 
-  settled_was : (asked : Bool) (old new : Running R J) (count : Option Count) → SettlesIf g h asked old new count → IsSound g h new → IsSound g h old
+  pub settled_was : (asked : Bool) (old new : Running R J) (count : Option Count) → SettlesIf g h asked old new count → IsSound g h new → IsSound g h old
   settled_was true old new (Some count) settles sound = settles.done.runs.was sound
   settled_was true old new None settles sound = absurd settles
   settled_was false old new (Some count) settles sound = absurd settles
@@ -101,7 +96,7 @@ module _ {R J : Type 0} (g : Registries R) (h : Journals J) where
   settled_reaches false old new (Some count) settles sound w is = absurd settles
   settled_reaches false old new None settles sound w is = (w, refl, subst (λ r. IsAmong g h all_names r w) (sym settles) (is_among g h old w is))
 
-  counted : (asked : Bool) (old new : Running R J) (count : Option Count) → SettlesIf g h asked old new count → is_some count ≡ asked
+  pub counted : (asked : Bool) (old new : Running R J) (count : Option Count) → SettlesIf g h asked old new count → is_some count ≡ asked
   counted true old new (Some count) settles = refl
   counted true old new None settles = absurd settles
   counted false old new (Some count) settles = absurd settles

@@ -26,7 +26,7 @@ pub record IsToldSoFar {R J F : Type 0} (g : Registries R) (h : Journals J) (tol
   pub tells : Tells told does before after reports
   pub one_each : length reports ≡ length events
 
-one_more : {X Y : Type 0} (xs : List X) (ys : List Y) (x : X) (y : Y) → length xs ≡ length ys → length (xs ++ x ∷ []) ≡ length (ys ++ y ∷ [])
+pub one_more : {X Y : Type 0} (xs : List X) (ys : List Y) (x : X) (y : Y) → length xs ≡ length ys → length (xs ++ x ∷ []) ≡ length (ys ++ y ∷ [])
 one_more xs ys x y same = length-append xs (x ∷ []) ∙ ap (λ n. n + 1) same ∙ sym (length-append ys (y ∷ []))
 
 module _ {R J F : Type 0} (g : Registries R) (h : Journals J) (told : F → List Report) (does : F → Report → F → Type 0) where

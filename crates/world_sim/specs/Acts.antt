@@ -41,16 +41,21 @@ IsExcusedTo g old new Memory = g.faults new.provider ≡ g.faults old.provider
 IsExcusedTo g old new Store =
     (old.is_provider_open ≡ false) ⊎ HasRisen (g.faults old.provider) (g.faults new.provider)
 
--- Somebody else's request wasn't answered: each world that ran before it runs now, if its fault didn't shut the
--- registry. Whether it did or not, the registry holds what it held before, or what the request would have made of it,
--- and nothing else of the world changed
-pub record FailsToAnswer {R J : Type 0} (g : Registries R) (h : Journals J) (old new : Running R J)
-    (request : Request) (fault : WorldFault) : Type 0 where
+-- What others do wasn't done: each world that ran before it runs now, if its fault didn't shut the registry. Whether it
+-- did or not, the registry holds what it held before, or what this would have made of it, and nothing else of the world
+-- changed. `made` is the world that it would have made
+pub record FailsToMake {R J : Type 0} (g : Registries R) (h : Journals J) (old new : Running R J)
+    (made : World → World) (fault : WorldFault) : Type 0 where
   pub was : IsSound g h new → IsSound g h old
   pub is : IsSound g h new → g.is_faithful new.provider → (w : World) → Mirrors g h old w → Mirrors g h new w
-  pub leaves : IsSound g h new → (w : World) → Mirrors g h old w → HoldsOneOf g h new w (acts w (Theirs request))
+  pub leaves : IsSound g h new → (w : World) → Mirrors g h old w → HoldsOneOf g h new w (made w)
   pub rows_unknown : (w : World) → Mirrors (unknown_rows g) h old w → Mirrors (unknown_rows g) h new w
   pub excused : IsExcusedTo g old new fault
+
+-- Somebody else's request wasn't answered
+abbrev pub FailsToAnswer : {R J : Type 0} → Registries R → Journals J → (old new : Running R J) → Request → WorldFault
+    → Type 0
+FailsToAnswer g h old new request fault = FailsToMake g h old new (λ w. acts w (Theirs request)) fault
 
 -- The request by which others write a content: a creation, or the unconditional replacement of the resource that has
 -- its name

@@ -7,6 +7,7 @@ use Rattle.scim_key.specs.Stores.{HasRisen}
 use Rattle.scim_message.specs.Messages.{answer_status}
 use Rattle.scim_message.specs.declared.messages.Request.{Request}
 use Rattle.scim_resource.specs.Contents.{content_name}
+use Rattle.source_csv.specs.Records.{row_name}
 use Rattle.provider_core.specs.Stories.{step}
 use Rattle.provider_core.specs.declared.registry.Registry.{Ghosts as Registries}
 use Rattle.journal_core.specs.declared.journals.Journal.{Ghosts as Journals}
@@ -15,8 +16,9 @@ use Rattle.world_model.specs.Others.{Act, Ours, Theirs, HeadlineAmong, LeavesAlo
 use Rattle.world_model.specs.Reports.{Report, report}
 use Rattle.world_model.specs.Safe.{Onward, rows as world_rows}
 use Rattle.world_model.specs.World.{World, Message, Event, empty}
-use Rattle.world_sim.specs.Acts.{FailsToAnswer, write_of}
+use Rattle.world_sim.specs.Acts.{FailsToMake, write_of}
 use Rattle.world_sim.specs.Events.{event_of, events_of, report_of}
+use Rattle.world_sim.specs.Imaging.{row_request}
 use Rattle.world_sim.specs.Lines.{report_text}
 use Rattle.world_sim.specs.Messages.{message_size}
 use Rattle.world_sim.specs.Running.{Apart, Fails, IsAmong, IsSound, Keeps, Makes, RunsFromEmpty, Starts, journal_in, opens_of}
@@ -25,6 +27,8 @@ use Rattle.world_sim.specs.declared.acting.Act.TheVariants as deeds
 use Rattle.world_sim.specs.declared.acting.ActReport.{ActReport as ActReportOf}
 use Rattle.world_sim.specs.declared.acting.ActReport.TheVariants as told
 use Rattle.world_sim.specs.declared.events.Event.{Event as EventOf}
+use Rattle.world_sim.specs.declared.imaging.RowRequest.{RowRequest}
+use Rattle.world_sim.specs.declared.imaging.RowRequest.TheVariants as requests
 use Rattle.world_sim.specs.declared.reports.Report.{Report as ReportOf}
 use Rattle.world_sim.specs.declared.reports.WorldFault.{WorldFault}
 use Rattle.world_sim.specs.declared.reports.WorldFault.TheVariants.{Memory}
@@ -32,51 +36,72 @@ use Rattle.world_sim.specs.declared.worlds.World.{World as Running}
 
 -- ---- acts
 
--- the model's act, in this world: what others write is a creation, or the replacement of what has the name
-abbrev pub act_of : World → ActOf → Act
-act_of w (deeds.Ours event) = Ours (event_of event)
-act_of w (deeds.Asks request) = Theirs request
-act_of w (deeds.Writes content) = Theirs (write_of (world_rows w) content)
+-- what others ask for by a row, as acts: there is none if the row waits
+abbrev pub asked_by : RowRequest → List Act
+asked_by (requests.Asks request) = Theirs request ∷ []
+asked_by (requests.Waits member) = []
+
+-- The model's act, in this world: what others write is a creation, or the replacement of what has the name. What they
+-- write of a row is its image over the provider's rows; if the row waits, there is no act
+abbrev pub act_of : World → ActOf → List Act
+act_of w (deeds.Ours event) = Ours (event_of event) ∷ []
+act_of w (deeds.Asks request) = Theirs request ∷ []
+act_of w (deeds.Writes content) = Theirs (write_of (world_rows w) content) ∷ []
+act_of w (deeds.WritesRow row) = asked_by (row_request (world_rows w) row)
+
+-- The world after an act
+abbrev pub after_act : World → ActOf → World
+after_act w act = run_among w (act_of w act)
 
 -- the model's acts, one after the other: each in the world that it comes to
 abbrev pub acts_of : World → List ActOf → List Act
 acts_of w [] = []
-acts_of w (act ∷ later) = act_of w act ∷ acts_of (acts w (act_of w act)) later
+acts_of w (act ∷ later) = act_of w act ++ acts_of (after_act w act) later
 
 -- our source offers rows of our records alone, and others leave our records alone
 abbrev pub IsApartFrom : Names → ActOf → Type 0
 IsApartFrom ours (deeds.Ours event) = OfOurs ours (event_of event)
 IsApartFrom ours (deeds.Asks request) = LeavesAlone ours request
 IsApartFrom ours (deeds.Writes content) = ours (content_name content) ≡ false
+IsApartFrom ours (deeds.WritesRow row) = ours (row_name row) ≡ false
 
 -- ---- reports
 
--- the report of an event of ours, or the status of the answer to somebody else
+-- the report of an event of ours, the status of the answer to somebody else, or the member that their row waits for
 pub data ActReport : Type 0 where
   Of_ours : (report : Report) → ActReport
   Of_others : (status : ℕ) → ActReport
+  Of_waiting : (member : List ℕ) → ActReport
 
 abbrev pub act_report_of : ActReportOf → ActReport
 act_report_of (told.Ours report) = Of_ours (report_of report)
 act_report_of (told.Others status) = Of_others status
+act_report_of (told.Waits member) = Of_waiting member
 
 abbrev pub others_report : World → Request → ActReport
 others_report w request = Of_others (answer_status (step w.entries request).answer)
+
+-- the report of what others ask for by a row
+abbrev pub row_report : World → RowRequest → ActReport
+row_report w (requests.Asks request) = others_report w request
+row_report w (requests.Waits member) = Of_waiting member
 
 -- The report of an act
 abbrev pub act_report : (size : Message → ℕ) → World → ActOf → ActReport
 act_report size w (deeds.Ours event) = Of_ours (report size w (event_of event))
 act_report size w (deeds.Asks request) = others_report w request
 act_report size w (deeds.Writes content) = others_report w (write_of (world_rows w) content)
+act_report size w (deeds.WritesRow row) = row_report w (row_request (world_rows w) row)
 
 abbrev pub act_reports : (size : Message → ℕ) → World → List ActOf → List ActReport
 act_reports size w [] = []
-act_reports size w (act ∷ later) = act_report size w act ∷ act_reports size (acts w (act_of w act)) later
+act_reports size w (act ∷ later) = act_report size w act ∷ act_reports size (after_act w act) later
 
 -- the printed report
 abbrev pub act_text : ActReportOf → List ℕ
 act_text (told.Ours report) = report_text report
 act_text (told.Others status) = codes "other " ++ decimal status
+act_text (told.Waits member) = codes "waits " ++ member
 
 -- ---- one act
 
@@ -84,7 +109,7 @@ act_text (told.Others status) = codes "other " ++ decimal status
 -- our records alone and others leave our records alone
 abbrev pub Does : {R J : Type 0} → Registries R → Journals J → (old new : Running R J) → ActOf → ActReportOf → Type 0
 Does g h old new act said =
-    Makes g h old new (λ ours w. IsApartFrom ours act → IsAmong g h ours new (acts w (act_of w act)))
+    Makes g h old new (λ ours w. IsApartFrom ours act → IsAmong g h ours new (after_act w act))
     (λ w. act_report (message_size old.service) w act) act_report_of said
 
 -- an event of ours failed
@@ -94,10 +119,10 @@ pub record FailsOurs {R J : Type 0} (g : Registries R) (h : Journals J) (old new
   pub keeps : Keeps old new event
   pub apart : Apart old new event
 
--- what others asked wasn't answered, and the connector and our messages are unchanged
-pub record FailsTheirs {R J : Type 0} (g : Registries R) (h : Journals J) (old new : Running R J) (request : Request)
-    (fault : WorldFault) : Type 0 where
-  pub fails : FailsToAnswer g h old new request fault
+-- what others do wasn't done, and the connector and our messages are unchanged
+pub record FailsTheirs {R J : Type 0} (g : Registries R) (h : Journals J) (old new : Running R J)
+    (made : World → World) (fault : WorldFault) : Type 0 where
+  pub fails : FailsToMake g h old new made fault
   pub connector : new.connector ≡ old.connector
   pub sent : new.sent ≡ old.sent
 
@@ -105,16 +130,10 @@ pub record FailsTheirs {R J : Type 0} (g : Registries R) (h : Journals J) (old n
 abbrev pub FailsToDo : {R J : Type 0} → Registries R → Journals J → (old new : Running R J) → ActOf → WorldFault
     → Type 0
 FailsToDo g h old new (deeds.Ours event) fault = FailsOurs g h old new (event_of event) fault
-FailsToDo g h old new (deeds.Asks request) fault = FailsTheirs g h old new request fault
+FailsToDo g h old new (deeds.Asks request) fault = FailsTheirs g h old new (λ w. acts w (Theirs request)) fault
 FailsToDo g h old new (deeds.Writes content) fault =
-    FailsTheirs g h old new (write_of (g.rows old.provider) content) fault
-
--- an act was done, and its report is the last of those that are kept
-pub record IsKept {R J : Type 0} (g : Registries R) (h : Journals J) (old new : Running R J) (act : ActOf)
-    (before after : List ActReportOf) : Type 0 where
-  pub report : ActReportOf
-  pub does : Does g h old new act report
-  pub added : after ≡ before ++ report ∷ []
+    FailsTheirs g h old new (λ w. acts w (Theirs (write_of (g.rows old.provider) content))) fault
+FailsToDo g h old new (deeds.WritesRow row) fault = FailsTheirs g h old new (λ w. after_act w (deeds.WritesRow row)) fault
 
 -- ---- runs
 

@@ -17,20 +17,20 @@ use Rattle.world_sim.specs.declared.worlds.World.{World as Running}
 
 -- These reports were told, one after the other, after those that were told before. `told` is what was told so far, and
 -- `does` what else the telling of one report does
-pub record Tells {F : Type 0} (told : F → List Report) (does : F → Report → F → Type 0) (old new : F)
-    (reports : List Report) : Type 0 where
+pub record Tells {F T : Type 0} (told : F → List T) (does : F → T → F → Type 0) (old new : F)
+    (reports : List T) : Type 0 where
   pub added : told new ≡ told old ++ reports
   pub done : FoldsTo does old reports new
 
 -- a report couldn't be told: it isn't among those that were
-pub record Misses {F : Type 0} (told : F → List Report) (does : F → Report → F → Type 0) (old new : F)
-    (reports : List Report) : Type 0 where
+pub record Misses {F T : Type 0} (told : F → List T) (does : F → T → F → Type 0) (old new : F)
+    (reports : List T) : Type 0 where
   pub between : F
   pub tells : Tells told does old between reports
   pub same : told new ≡ told between
 
 -- why a report wasn't told, where no event failed: it isn't among those that were
-abbrev pub IsUntold : {F E : Type 0} → (told : F → List Report) → (before after : F) → TellingFault E → Type 0
+abbrev pub IsUntold : {F T E : Type 0} → (told : F → List T) → (before after : F) → TellingFault E → Type 0
 IsUntold told before after (World fault) = ⊥
 IsUntold told before after (Untold why) = told after ≡ told before
 

@@ -7,11 +7,15 @@ pub mod Answering
 pub mod Running
 pub mod GoingOn
 pub mod Acts
+pub mod Imaging
 pub mod Following
+pub mod FollowingAmong
 pub mod Settling
 pub mod Schedules
 pub mod Views
 pub mod Lines
+pub mod Strangers
 pub mod Amid
 pub mod Printing
+pub mod PrintingAmong
 pub mod Random

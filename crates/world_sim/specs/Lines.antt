@@ -49,14 +49,24 @@ held_text Group _ members = codes "members=" ++ decimal members
 held_text User (Some active) _ = codes "active=" ++ flag_text active
 held_text User None _ = codes "active=-"
 
+-- what the provider holds of a record
+abbrev pub holding_text : View → List ℕ
+holding_text view =
+    codes "held=" ++ (revision_text view.held
+    ++ (codes " version=" ++ (decimal view.version
+    ++ (codes " " ++ held_text view.name.kind view.active view.members))))
+
 abbrev pub view_text : View → List ℕ
 view_text view =
     kind_word view.name.kind ++ (codes " " ++ (view.name.key
     ++ (codes " wanted=" ++ (revision_text view.wanted
     ++ (codes " confirmed=" ++ (revision_text view.confirmed
-    ++ (codes " held=" ++ (revision_text view.held
-    ++ (codes " version=" ++ (decimal view.version
-    ++ (codes " " ++ held_text view.name.kind view.active view.members)))))))))))
+    ++ (codes " " ++ holding_text view)))))))
+
+-- the same of a record that isn't ours
+abbrev pub others_text : View → List ℕ
+others_text view =
+    codes "other " ++ (kind_word view.name.kind ++ (codes " " ++ (view.name.key ++ (codes " " ++ holding_text view))))
 
 abbrev pub count_text : Count → List ℕ
 count_text count = codes "settled in " ++ (decimal count.exchanges ++ codes " exchanges")

@@ -4,6 +4,7 @@ use Rattle.std.specs.Prelude.{codes, length, map}
 use Rattle.std.specs.FinMap as fin
 use Rattle.std.specs.Fmt.{decimal}
 use Rattle.std.specs.Io.KnownBytes.{Appends}
+use Rattle.scim_key.specs.declared.records.RecordName.{RecordName}
 use Rattle.provider_core.specs.declared.registry.Registry.{Ghosts as Registries}
 use Rattle.journal_core.specs.declared.journals.Journal.{Ghosts as Journals}
 use Rattle.world_model.specs.Invariant.{Names}
@@ -11,7 +12,7 @@ use Rattle.world_model.specs.Reports.{reports as model_reports}
 use Rattle.world_model.specs.World.{World, Event, empty, names as world_names, run}
 use Rattle.world_sim.specs.Events.{report_of}
 use Rattle.world_sim.specs.Following.{EndsTelling, RunsTelling}
-use Rattle.world_sim.specs.Lines.{count_text, report_text, view_text}
+use Rattle.world_sim.specs.Lines.{count_text, others_text, report_text, view_text}
 use Rattle.world_sim.specs.Messages.{message_size}
 use Rattle.world_sim.specs.Running.{IsAmong, IsSound}
 use Rattle.world_sim.specs.Settling.{IsSettling, Settles}
@@ -19,6 +20,8 @@ use Rattle.world_sim.specs.Views.{view}
 use Rattle.world_sim.specs.declared.following.TellingFault.{TellingFault}
 use Rattle.world_sim.specs.declared.printing.Printed.{Printed}
 use Rattle.world_sim.specs.declared.printing.ReportLines.{ReportLines}
+use Rattle.world_sim.specs.declared.printing.Whose.{Whose}
+use Rattle.world_sim.specs.declared.printing.Whose.TheVariants as whose
 use Rattle.world_sim.specs.declared.reports.Report.{Report}
 use Rattle.world_sim.specs.declared.settling.Count.{Count}
 use Rattle.world_sim.specs.declared.views.View.{View}
@@ -43,9 +46,23 @@ settled_lines (Some count) = count_text count ++ codes "\n"
 abbrev pub view_line : View → List ℕ
 view_line shown = view_text shown ++ codes "\n"
 
+-- the line of a record that isn't ours
+abbrev pub others_line : View → List ℕ
+others_line shown = others_text shown ++ codes "\n"
+
+abbrev pub line_of : Whose → View → List ℕ
+line_of whose.Ours shown = view_line shown
+line_of whose.Others shown = others_line shown
+
+abbrev pub lines_of : Whose → List View → List ℕ
+lines_of of [] = []
+lines_of of (shown ∷ views) = line_of of shown ++ lines_of of views
+
 abbrev pub view_lines : List View → List ℕ
-view_lines [] = []
-view_lines (shown ∷ views) = view_line shown ++ view_lines views
+view_lines views = lines_of whose.Ours views
+
+abbrev pub others_lines : List View → List ℕ
+others_lines views = lines_of whose.Others views
 
 -- ---- reports
 
@@ -68,6 +85,13 @@ SettlesIf g h true old new (Some count) = Settles g h old new count
 SettlesIf g h true old new None = ⊥
 SettlesIf g h false old new (Some count) = ⊥
 SettlesIf g h false old new None = new ≡ old
+
+-- a look at these records: each world that ran before runs after it, and these are their views
+pub record ShowsEach {R J : Type 0} (g : Registries R) (h : Journals J) (old new : Running R J)
+    (names : List RecordName) (views : List View) : Type 0 where
+  pub was : IsSound g h new → IsSound g h old
+  pub is : IsSound g h new → {ours : Names} (w : World) → IsAmong g h ours old w → IsAmong g h ours new w
+  pub shown : IsSound g h new → {ours : Names} (w : World) → IsAmong g h ours old w → views ≡ map (view w) names
 
 -- a look at every record: each world that ran before runs after it, and these are the views of its records, in order
 pub record ShowsAll {R J : Type 0} (g : Registries R) (h : Journals J) (old new : Running R J) (views : List View)

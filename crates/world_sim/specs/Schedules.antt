@@ -16,6 +16,8 @@ use Rattle.source_csv.specs.Files.{AreRecordsOf, headers_of, rows_of}
 use Rattle.source_csv.specs.declared.faults.RowFault.{RowFault}
 use Rattle.source_csv.specs.declared.faults.SourceFault.{SourceFault}
 use Rattle.source_csv.specs.declared.rows.Row.{Row}
+use Rattle.world_sim.specs.declared.acting.Act.{Act}
+use Rattle.world_sim.specs.declared.acting.Act.TheVariants as acts
 use Rattle.world_sim.specs.declared.events.Event.{Event}
 use Rattle.world_sim.specs.declared.events.Event.TheVariants as events
 use Rattle.world_sim.specs.declared.schedules.ScheduleFault.{ScheduleFault}
@@ -42,9 +44,13 @@ row_under records_in of text [] = None
 row_under records_in of text (columns ∷ headers) =
     option_or (only_row (rows_of of (records_in (file_of columns text)))) (row_under records_in of text headers)
 
+-- the row that a record of this kind is
+unfoldable pub row_in : (List ℕ → List Record) → Kind → List ℕ → Option Row
+row_in records_in of text = row_under records_in of text (headers_of of)
+
 -- `user` or `group` and a record: the source offers that row
 unfoldable pub change_in : (List ℕ → List Record) → Kind → List ℕ → Option Event
-change_in records_in of text = option_map events.Change (row_under records_in of text (headers_of of))
+change_in records_in of text = option_map events.Change (row_in records_in of text)
 
 -- the text before the first space, and the text after it
 abbrev pub first_word : List ℕ → List ℕ
@@ -101,19 +107,48 @@ abbrev pub is_silent : List ℕ → Bool
 is_silent [] = true
 is_silent (b ∷ line) = b == 35
 
--- the event in the line with this number; none if the line is skipped; or the fault that it isn't an event
-unfoldable pub said_at : (List ℕ → List Record) → ℕ → List ℕ → Result (Option Event) ScheduleFault
-said_at records_in number line =
-    if is_silent line then Ok None else ok_or (option_map Some (event_in records_in line)) (Line number)
+-- what the line with this number says; nothing if the line is skipped; or the fault that it says nothing valid
+unfoldable pub said_at : {T : Type 0} → (said : List ℕ → Option T) → ℕ → List ℕ → Result (Option T) ScheduleFault
+said_at said number line = if is_silent line then Ok None else ok_or (option_map Some (said line)) (Line number)
 
--- the events in these lines, the first of which has this number
-abbrev pub events_from : (List ℕ → List Record) → ℕ → List (List ℕ) → Result (List Event) ScheduleFault
-events_from records_in number [] = Ok []
-events_from records_in number (line ∷ lines) = do
-  said ← said_at records_in number line
-  events ← events_from records_in (number + 1) lines
-  Ok (option_to_list said ++ events)
+-- what these lines say, the first of which has this number
+abbrev pub said_from : {T : Type 0} → (said : List ℕ → Option T) → ℕ → List (List ℕ) → Result (List T) ScheduleFault
+said_from said number [] = Ok []
+said_from said number (line ∷ lines) = do
+  one ← said_at said number line
+  more ← said_from said (number + 1) lines
+  Ok (option_to_list one ++ more)
 
 -- The events in the lines of a schedule, which are numbered from 1, or the first line that isn't an event
 abbrev pub events_in : (List ℕ → List Record) → List ℕ → Result (List Event) ScheduleFault
-events_in records_in text = events_from records_in 1 (lines text)
+events_in records_in text = said_from (event_in records_in) 1 (lines text)
+
+-- ---- schedules among others
+
+-- a type of resource and a record: the row
+unfoldable pub typed_row_in : (List ℕ → List Record) → List ℕ → Option Row
+typed_row_in records_in text =
+    if bytes_eq (first_word text) (codes "user") then row_in records_in kind.User (behind text)
+    else if bytes_eq (first_word text) (codes "group") then row_in records_in kind.Group (behind text)
+    else None
+
+-- the act of a line with this first word, and this text after its first space: `other` and a row, or an event
+unfoldable pub act_of_words : (List ℕ → List Record) → (word rest : List ℕ) → Option Act
+act_of_words records_in word rest =
+    if bytes_eq word (codes "other") then option_map acts.WritesRow (typed_row_in records_in rest)
+    else option_map acts.Ours (event_of_words records_in word rest)
+
+-- The act in a line
+abbrev pub act_in : (List ℕ → List Record) → List ℕ → Option Act
+act_in records_in line = act_of_words records_in (first_word line) (behind line)
+
+-- The acts in the lines of a schedule, which are numbered from 1, or the first line that is neither an event nor what
+-- others write
+abbrev pub acts_in : (List ℕ → List Record) → List ℕ → Result (List Act) ScheduleFault
+acts_in records_in text = said_from (act_in records_in) 1 (lines text)
+
+-- the numbers of the lines that aren't skipped, the first of which has this number
+abbrev pub said_lines : ℕ → List (List ℕ) → List ℕ
+said_lines number [] = []
+said_lines number (line ∷ lines) =
+    if is_silent line then said_lines (number + 1) lines else number ∷ said_lines (number + 1) lines

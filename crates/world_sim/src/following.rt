@@ -2,7 +2,6 @@
 ghost use Rattle.std.specs.Prelude.{◌≡◌, ◌++◌, ◌∷◌, [], List, IfErr, IfOk, OnErr, OnOk};
 ghost use Rattle.world_sim.specs.Events.{event_of, events_of};
 ghost use Rattle.world_sim.specs.Following.{EndsAt, EndsTelling, Follows, IsUntold, RunsTelling};
-ghost use Rattle.world_sim.specs.declared.reports.Report.{Report as ReportOf};
 
 use crate::events::Event;
 use crate::reports::{Report, WorldFault};
@@ -13,18 +12,18 @@ use scim_key::Base;
 use std::alloc::Global;
 use std::io;
 
-/// Who follows a run: he is told the report of each event as soon as the event is made.
-pub trait Follow {
+/// Who follows a run: he is told each report as soon as the event or the act is made.
+pub trait Follow<T: Drop> {
     /// Why a report couldn't be told.
     type Fault: Drop;
 
     /// The reports that were told so far, in order. One that couldn't be told isn't among them.
-    ghost told: { Self → List ReportOf };
+    ghost told: { Self → List T };
 
     /// What the telling of a report does beside that, such as the line that it prints.
-    ghost does: { Self → ReportOf → Self → Type 0 };
+    ghost does: { Self → T → Self → Type 0 };
 
-    fn tell(&mut self, report: Report) -> Result<(), Self::Fault>
+    fn tell(&mut self, report: T) -> Result<(), Self::Fault>
         ensures told { OnOk result (told self.new ≡ told self.old ++ report ∷ []) }
         ensures does { OnOk result (does self.old report self.new) }
         ensures untold { OnErr result (told self.new ≡ told self.old) };
@@ -61,7 +60,7 @@ impl From<io::Error> for TellingFault<io::Error> {
 }
 
 /// Makes an event, and tells its report.
-fn step_telling<R: Reopen + Drop, J: ReopenJournal + Drop, F: Follow>(
+fn step_telling<R: Reopen + Drop, J: ReopenJournal + Drop, F: Follow<Report>>(
     world: &mut World<R, J>,
     event: &Event,
     follower: &mut F,
@@ -78,7 +77,10 @@ fn step_telling<R: Reopen + Drop, J: ReopenJournal + Drop, F: Follow>(
 }
 
 /// Tells a report.
-fn tell<F: Follow>(follower: &mut F, report: Report) -> Result<(), TellingFault<F::Fault>>
+pub(crate) fn tell<T: Drop, F: Follow<T>>(
+    follower: &mut F,
+    report: T,
+) -> Result<(), TellingFault<F::Fault>>
     ensures told { OnOk result (F.told follower.new ≡ F.told follower.old ++ report ∷ []) }
     ensures does { OnOk result (F.does follower.old report follower.new) }
     ensures fault { IfErr result (IsUntold F.told follower.old follower.new) }
@@ -92,7 +94,7 @@ fn tell<F: Follow>(follower: &mut F, report: Report) -> Result<(), TellingFault<
 /// The world after these events, one after the other, over a registry without rows and a journal without
 /// entries. The follower is told the report of each event before the next event is made. The promise of `run`
 /// holds. If an event fails, or a report can't be told, the run ends there, and both stores are dropped.
-pub fn run_telling<R: Reopen + Drop, J: ReopenJournal + Drop, F: Follow>(
+pub fn run_telling<R: Reopen + Drop, J: ReopenJournal + Drop, F: Follow<Report>>(
     alloc: Global,
     registry: R,
     journal: J,

@@ -2,12 +2,15 @@
 #![tactic(auto)]
 
 mod acting;
+mod among;
 mod events;
 mod following;
+mod imaging;
 mod laws;
 mod messages;
 mod others;
 mod printing;
+mod printing_among;
 mod random;
 mod reading;
 mod reports;
@@ -15,18 +18,22 @@ mod runs;
 mod schedules;
 mod settling;
 mod sides;
+mod strangers;
 mod views;
 mod worlds;
 
-pub use acting::{Act, ActReport, run_among};
+pub use acting::{Act, ActReport};
+pub use among::{run_among, run_telling_among};
 pub use events::Event;
 pub use following::{Follow, TellingFault, run_telling};
 pub use laws::{answers_fit, messages_are_read, without_others};
 pub use printing::{Printed, ReportLines, print_run};
+pub use printing_among::{ActLines, PrintedAmong, print_run_among};
 pub use random::random_schedule;
 pub use reports::{Report, WorldFault};
 pub use runs::run;
-pub use schedules::{NUMBER_DIGITS, ScheduleFault, read_schedule};
+pub use schedules::{NUMBER_DIGITS, ScheduleFault, read_acts, read_schedule, said_lines};
 pub use settling::{Count, MOST_EXCHANGES, settle};
+pub use strangers::contested;
 pub use views::View;
 pub use worlds::World;

@@ -19,7 +19,7 @@ use std::alloc::{AllocError, Global};
 
 /// The request by which others write this content: a creation, or the unconditional replacement of the
 /// resource that has its name.
-fn write_request(
+pub(crate) fn write_request(
     alloc: Global,
     row: Option<&Stored>,
     content: Content,

@@ -2,7 +2,7 @@
 ghost use Rattle.std.specs.Prelude.{◌≡◌, ◌+◌, ◌++◌, ◌∷◌, [], IfErr, IfOk, OnOk, Some, length};
 ghost use Rattle.std.specs.Io.KnownBytes.{Appends, Keeps};
 ghost use Rattle.world_sim.specs.Events.{events_of};
-ghost use Rattle.world_sim.specs.Printing.{Ends, EndsPrinting, Prints, PrintsReport, SettlesIf, ShowsAll, printed_reports, report_line, settled_lines, view_line, view_lines};
+ghost use Rattle.world_sim.specs.Printing.{Ends, EndsPrinting, Prints, PrintsReport, SettlesIf, ShowsAll, ShowsEach, line_of, lines_of, printed_reports, report_line, settled_lines, view_lines};
 ghost use Rattle.world_sim.specs.Views.{Looks, Shows};
 
 use crate::events::Event;
@@ -47,7 +47,7 @@ fn print_report<W: Write>(out: &mut W, number: usize, report: &Report) -> io::Re
     writeln!(out, "{number} {report}")
 }
 
-impl<W: Write + Drop> Follow for ReportLines<W> {
+impl<W: Write + Drop> Follow<Report> for ReportLines<W> {
     type Fault = io::Error;
 
     ghost told = { printed_reports };
@@ -108,7 +108,7 @@ fn print_end<R: Registry + Drop, J: Journal + Drop, W: Write>(
 }
 
 /// Settles every record if that is asked for, and prints how many exchanges that took.
-fn print_settling<R: Registry + Drop, J: Journal + Drop, W: Write>(
+pub(crate) fn print_settling<R: Registry + Drop, J: Journal + Drop, W: Write>(
     world: &mut World<R, J>,
     settles: bool,
     out: &mut W,
@@ -135,7 +135,7 @@ fn print_count<W: Write>(out: &mut W, count: Count) -> io::Result<()>
 }
 
 /// Prints a line for each record: users by key, then groups by key.
-fn print_views<R: Registry + Drop, J: Journal + Drop, W: Write>(
+pub(crate) fn print_views<R: Registry + Drop, J: Journal + Drop, W: Write>(
     alloc: Global,
     world: &mut World<R, J>,
     out: &mut W,
@@ -146,9 +146,32 @@ fn print_views<R: Registry + Drop, J: Journal + Drop, W: Write>(
         (view_lines views.items)) }
 {
     let names = world.names()?;
+    print_each(alloc, world, names.as_slice(), Whose::Ours, out)
+}
+
+/// Whose record a line is about.
+#[derive(Clone, Copy)]
+pub(crate) enum Whose {
+    Ours,
+    Others,
+}
+
+/// Prints a line for each of these records.
+pub(crate) fn print_each<R: Registry + Drop, J: Journal + Drop, W: Write>(
+    alloc: Global,
+    world: &mut World<R, J>,
+    names: &[RecordName],
+    whose: Whose,
+    out: &mut W,
+) -> Result<Vec<View>, TellingFault<io::Error>>
+    ensures shows { IfOk result
+        (λ views. ShowsEach R.Registry J.Journal world.old world.new names.now views.items) }
+    ensures lines { IfOk result (λ views. Appends (W.contents out.old) (W.contents out.new)
+        (lines_of whose views.items)) }
+{
     let mut views = Vec::new(alloc);
-    for name in names.as_slice() {
-        let view = print_view(world, name, out)?;
+    for name in names {
+        let view = print_view(world, name, whose, out)?;
         keep(&mut views, view)?;
     }
     Ok(views)
@@ -166,28 +189,32 @@ fn keep(views: &mut Vec<View>, view: View) -> Result<(), WorldFault>
 fn print_view<R: Registry + Drop, J: Journal + Drop, W: Write>(
     world: &mut World<R, J>,
     name: &RecordName,
+    whose: Whose,
     out: &mut W,
 ) -> Result<View, TellingFault<io::Error>>
     ensures shows { IfOk result (Shows R.Registry J.Journal world.old world.new name.now) }
     ensures looks { Looks R.Registry J.Journal world.old world.new }
     ensures line { IfOk result (λ view. Appends (W.contents out.old) (W.contents out.new)
-        (view_line view)) }
+        (line_of whose view)) }
 {
     let view = world.view(name)?;
-    print_line(out, &view)?;
+    print_line(out, whose, &view)?;
     Ok(view)
 }
 
 /// Prints the line of a view.
-fn print_line<W: Write>(out: &mut W, view: &View) -> io::Result<()>
+fn print_line<W: Write>(out: &mut W, whose: Whose, view: &View) -> io::Result<()>
     ensures { OnOk result (Appends (W.contents out.old) (W.contents out.new)
-        (view_line view.now)) }
+        (line_of whose view.now)) }
 {
-    writeln!(out, "{view}")
+    match whose {
+        Whose::Ours => writeln!(out, "{view}"),
+        Whose::Others => writeln!(out, "{}", view.of_others()),
+    }
 }
 
 /// Flushes what was printed.
-fn flush<W: Write>(out: &mut W) -> io::Result<()>
+pub(crate) fn flush<W: Write>(out: &mut W) -> io::Result<()>
     ensures { Keeps (W.contents out.old) (W.contents out.new) }
 {
     out.flush()

@@ -15,25 +15,25 @@ use std::alloc::{AllocError, Global};
 
 /// Keeps the reports of a run.
 #[derive(Drop)]
-struct Reports {
-    kept: Vec<Report>,
+pub(crate) struct Reports<T> {
+    pub(crate) kept: Vec<T>,
 }
 
-impl Follow for Reports {
+impl<T: Drop> Follow<T> for Reports<T> {
     type Fault = AllocError;
 
     ghost told = { λ r. r.kept.items };
 
     ghost does = { λ _ _ _. Unit {0} };
 
-    fn tell(&mut self, report: Report) -> Result<(), AllocError> {
+    fn tell(&mut self, report: T) -> Result<(), AllocError> {
         self.kept.push(report)?;
         Ok(())
     }
 }
 
 /// A report that couldn't be kept is out of memory.
-fn run_fault(fault: TellingFault<AllocError>) -> WorldFault
+pub(crate) fn run_fault(fault: TellingFault<AllocError>) -> WorldFault
     ensures { result ≡ run_fault fault }
 {
     match fault {

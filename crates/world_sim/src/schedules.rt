@@ -1,5 +1,5 @@
 //! Schedules: texts that say, line by line, what happens in a world.
-ghost use Rattle.std.specs.Prelude.{◌≡◌, IfOk, List, ℕ, map, string_bytes};
+ghost use Rattle.std.specs.Prelude.{◌≡◌, IfOk, List, ℕ, Option, map, string_bytes};
 ghost use Rattle.std.specs.Char.{is_ascii_digit};
 ghost use Rattle.std.specs.List.{join_with_byte, list_all};
 ghost use Rattle.std.specs.Str.Lines.{lines};
@@ -7,11 +7,12 @@ ghost use Rattle.scim_key.specs.Outcome.{Gives, GivesBy};
 ghost use Rattle.scim_filter.specs.Names.{is_lawful, record_named};
 ghost use Rattle.source_csv.specs.Fields.{Record, named};
 ghost use Rattle.source_csv.specs.Files.{AreRecordsOf, rows_of};
-ghost use Rattle.world_sim.specs.Schedules.{ReadsFiles, behind, event_in, event_of_words, events_from, events_in, file_of, first_word, is_silent, only_row, row_under};
+ghost use Rattle.world_sim.specs.Schedules.{ReadsFiles, act_in, acts_in, behind, event_in, events_in, file_of, first_word, is_silent, only_row, row_under, said_from, said_lines};
 ghost use Rattle.world_sim.specs.Schedules as spec;
 ghost use Rattle.world_sim.specs.declared.schedules.ScheduleFault.TheVariants as fault;
 ghost use Rattle.world_sim.specs.declared.events.Event.TheVariants as events;
 
+use crate::acting::Act;
 use crate::events::Event;
 use scim_key::{GroupName, Key, Kind, NameFault, RecordName, UserName};
 use source_csv::{GROUP_HEADERS, Row, RowFault, SourceFault, USER_HEADERS, read_rows};
@@ -21,10 +22,10 @@ use thiserror::Error;
 /// The most digits of a number in a schedule.
 pub const NUMBER_DIGITS: usize = 18;
 
-/// Why a schedule gives no events.
+/// Why a schedule gives no events, or no acts.
 #[derive(Clone, Copy, Debug, Error)]
 pub enum ScheduleFault {
-    /// The line with this number, counted from 1, is the first that isn't an event.
+    /// The line with this number, counted from 1, is the first that isn't one.
     #[error("line {0}: L1")]
     Line(usize),
     #[error("memory")]
@@ -109,17 +110,25 @@ fn row_under(
     Ok(None)
 }
 
+/// The row that a record of this kind is.
+#[tactic(auto, unfolding(crate::specs::Schedules::row_in))]
+fn row_in(alloc: Global, kind: Kind, text: &str) -> Result<Option<Row>, AllocError>
+    ensures { (records_in : List ℕ → List Record) → ReadsFiles records_in
+        → IfOk result (λ row. row ≡ spec.row_in records_in kind text.now) }
+{
+    Ok(match kind {
+        Kind::User => row_under(alloc, kind, &USER_HEADERS, text)?,
+        Kind::Group => row_under(alloc, kind, &GROUP_HEADERS, text)?,
+    })
+}
+
 /// The event that offers this record of a file of this kind.
 #[tactic(auto, unfolding(crate::specs::Schedules::change_in))]
 pub(crate) fn change_in(alloc: Global, kind: Kind, text: &str) -> Result<Option<Event>, AllocError>
     ensures { (records_in : List ℕ → List Record) → ReadsFiles records_in
         → IfOk result (λ event. event ≡ spec.change_in records_in kind text.now) }
 {
-    let row = match kind {
-        Kind::User => row_under(alloc, kind, &USER_HEADERS, text)?,
-        Kind::Group => row_under(alloc, kind, &GROUP_HEADERS, text)?,
-    };
-    Ok(row.map(Event::Change))
+    Ok(row_in(alloc, kind, text)?.map(Event::Change))
 }
 
 /// The first word of a text, and the rest after the first space.
@@ -257,36 +266,89 @@ fn lines_of(alloc: Global, text: &str) -> Result<Vec<&str>, AllocError>
     text.lines().collect(alloc)
 }
 
-/// The event in the line with this number; none if the line is empty or a comment.
-#[tactic(auto, unfolding(crate::specs::Schedules::said_at))]
-fn said_at(alloc: Global, number: usize, line: &str) -> Result<Option<Event>, ScheduleFault>
+/// The row of a type of resource and a record of a file of that type.
+#[tactic(auto, unfolding(crate::specs::Schedules::typed_row_in))]
+fn typed_row_in(alloc: Global, text: &str) -> Result<Option<Row>, AllocError>
     ensures { (records_in : List ℕ → List Record) → ReadsFiles records_in
-        → Gives ScheduleFault.Memory result (spec.said_at records_in number line.now) }
+        → IfOk result (λ row. row ≡ spec.typed_row_in records_in text.now) }
+{
+    let (word, rest) = words_of(text);
+    match word {
+        "user" => row_in(alloc, Kind::User, rest),
+        "group" => row_in(alloc, Kind::Group, rest),
+        _ => Ok(None),
+    }
+}
+
+/// The act in a line.
+#[tactic(auto, unfolding(crate::specs::Schedules::act_of_words))]
+fn act_in(alloc: Global, line: &str) -> Result<Option<Act>, AllocError>
+    ensures { (records_in : List ℕ → List Record) → ReadsFiles records_in
+        → IfOk result (λ act. act ≡ act_in records_in line.now) }
+{
+    let (word, rest) = words_of(line);
+    match word {
+        "other" => Ok(typed_row_in(alloc, rest)?.map(Act::WritesRow)),
+        _ => Ok(event_in(alloc, line)?.map(Act::Ours)),
+    }
+}
+
+/// What a line of a schedule may say.
+trait Line: Drop + Sized {
+    /// What a line says, if it says anything.
+    ghost said: { (List ℕ → List Record) → List ℕ → Option Self };
+
+    fn read(alloc: Global, line: &str) -> Result<Option<Self>, AllocError>
+        ensures { (records_in : List ℕ → List Record) → ReadsFiles records_in
+            → IfOk result (λ found. found ≡ said records_in line.now) };
+}
+
+impl Line for Event {
+    ghost said = { event_in };
+
+    fn read(alloc: Global, line: &str) -> Result<Option<Event>, AllocError> {
+        event_in(alloc, line)
+    }
+}
+
+impl Line for Act {
+    ghost said = { act_in };
+
+    fn read(alloc: Global, line: &str) -> Result<Option<Act>, AllocError> {
+        act_in(alloc, line)
+    }
+}
+
+/// What the line with this number says; nothing if the line is empty or a comment.
+#[tactic(auto, unfolding(crate::specs::Schedules::said_at))]
+fn said_at<T: Line>(alloc: Global, number: usize, line: &str) -> Result<Option<T>, ScheduleFault>
+    ensures { (records_in : List ℕ → List Record) → ReadsFiles records_in
+        → Gives ScheduleFault.Memory result (spec.said_at (T.said records_in) number line.now) }
 {
     if is_silent(line) {
         return Ok(None);
     }
-    match event_in(alloc, line)? {
-        Some(event) => Ok(Some(event)),
+    match T::read(alloc, line)? {
+        Some(said) => Ok(Some(said)),
         None => Err(ScheduleFault::Line(number)),
     }
 }
 
-/// The events in these lines, which are numbered from 1.
-fn events_of(alloc: Global, lines: &[&str]) -> Result<Vec<Event>, ScheduleFault>
+/// What these lines say, which are numbered from 1.
+fn said_of<T: Line>(alloc: Global, lines: &[&str]) -> Result<Vec<T>, ScheduleFault>
     ensures { (records_in : List ℕ → List Record) → ReadsFiles records_in
-        → GivesBy (λ events. events.items) ScheduleFault.Memory result
-        (events_from records_in 1 (map (λ line. line.now) lines.now)) }
+        → GivesBy (λ all. all.items) ScheduleFault.Memory result
+        (said_from (T.said records_in) 1 (map (λ line. line.now) lines.now)) }
 {
-    let mut events = Vec::new(alloc);
+    let mut all = Vec::new(alloc);
     let mut number = 0;
     for line in lines {
         number += 1;
-        if let Some(event) = said_at(alloc, number, line)? {
-            events.push(event)?;
+        if let Some(said) = said_at(alloc, number, line)? {
+            all.push(said)?;
         }
     }
-    Ok(events)
+    Ok(all)
 }
 
 /// Reads a schedule. Its lines end with LF or CR LF; empty lines and lines that begin with `#` are skipped.
@@ -299,5 +361,40 @@ pub fn read_schedule(alloc: Global, text: &str) -> Result<Vec<Event>, ScheduleFa
         (events_in records_in text.now) }
 {
     let lines = lines_of(alloc, text)?;
-    events_of(alloc, lines.as_slice())
+    said_of(alloc, lines.as_slice())
+}
+
+/// Reads a schedule among others. Its lines are those that `read_schedule` reads, and `other user` or `other
+/// group` with a record of a file of that kind, whose image others write.
+pub fn read_acts(alloc: Global, text: &str) -> Result<Vec<Act>, ScheduleFault>
+    ensures { (records_in : List ℕ → List Record) → ReadsFiles records_in
+        → GivesBy (λ acts. acts.items) ScheduleFault.Memory result
+        (acts_in records_in text.now) }
+{
+    let lines = lines_of(alloc, text)?;
+    said_of(alloc, lines.as_slice())
+}
+
+/// The numbers of the lines that aren't empty and no comments. The first line has the number 1.
+fn numbers_of(alloc: Global, lines: &[&str]) -> Result<Vec<usize>, AllocError>
+    ensures { IfOk result (λ numbers. numbers.items
+        ≡ said_lines 1 (map (λ line. line.now) lines.now)) }
+{
+    let mut numbers = Vec::new(alloc);
+    let mut number: usize = 0;
+    for line in lines {
+        number += 1;
+        if !is_silent(line) {
+            numbers.push(number)?;
+        }
+    }
+    Ok(numbers)
+}
+
+/// The numbers of the lines of a schedule that aren't empty and no comments. Each is an event or an act.
+pub fn said_lines(alloc: Global, text: &str) -> Result<Vec<usize>, AllocError>
+    ensures { IfOk result (λ numbers. numbers.items ≡ said_lines 1 (lines text.now)) }
+{
+    let lines = lines_of(alloc, text)?;
+    numbers_of(alloc, lines.as_slice())
 }

@@ -60,6 +60,29 @@ impl fmt::Display for Held {
     }
 }
 
+/// What the provider holds of a record, in the line of a view.
+#[derive(Clone, Copy)]
+struct Holding<'a> {
+    view: &'a View,
+}
+
+impl fmt::Display for Holding<'_> {
+    ghost use Rattle.std.specs.Prelude.{Some};
+    ghost use Rattle.world_sim.specs.Lines.{holding_text};
+
+    ghost output = { λ holding. Some (holding_text holding.view.now) };
+
+    fn fmt<W: fmt::Write>(&self, f: &mut fmt::Formatter<W>) -> fmt::Result {
+        let (held, version) = (self.view.held, self.view.version);
+        let end = Held {
+            kind: self.view.name.kind,
+            active: self.view.active,
+            members: self.view.members,
+        };
+        write!(f, "held={held} version={version} {end}")
+    }
+}
+
 impl fmt::Display for View {
     ghost use Rattle.std.specs.Prelude.{Some};
     ghost use Rattle.world_sim.specs.Lines.{view_text};
@@ -70,18 +93,42 @@ impl fmt::Display for View {
     fn fmt<W: fmt::Write>(&self, f: &mut fmt::Formatter<W>) -> fmt::Result {
         let (kind, key) = (kind_word(self.name.kind), self.name.key.as_str());
         let (wanted, confirmed) = (self.wanted, self.confirmed);
-        let (held, version) = (self.held, self.version);
-        let end = Held {
-            kind: self.name.kind,
-            active: self.active,
-            members: self.members,
-        };
-        write!(f, "{kind} {key} wanted={wanted} confirmed={confirmed}")?;
-        write!(f, " held={held} version={version} {end}")
+        let holding = Holding { view: self };
+        write!(
+            f,
+            "{kind} {key} wanted={wanted} confirmed={confirmed} {holding}"
+        )
+    }
+}
+
+/// What the provider holds of a record that isn't ours.
+#[derive(Clone, Copy)]
+pub(crate) struct OthersRecord<'a> {
+    view: &'a View,
+}
+
+impl fmt::Display for OthersRecord<'_> {
+    ghost use Rattle.std.specs.Prelude.{Some};
+    ghost use Rattle.world_sim.specs.Lines.{others_text};
+
+    ghost output = { λ shown. Some (others_text shown.view.now) };
+
+    /// A line: `other user dee held=1 version=2 active=true`.
+    fn fmt<W: fmt::Write>(&self, f: &mut fmt::Formatter<W>) -> fmt::Result {
+        let (kind, key) = (kind_word(self.view.name.kind), self.view.name.key.as_str());
+        let holding = Holding { view: self.view };
+        write!(f, "other {kind} {key} {holding}")
     }
 }
 
 impl View {
+    /// What the provider holds, as the line of a record that isn't ours.
+    pub(crate) fn of_others(&self) -> OthersRecord<'_>
+        ensures { result.view.now ≡ self.now }
+    {
+        OthersRecord { view: self }
+    }
+
     /// The view of a record with these revisions, and with the provider's row of it, if there is one.
     pub fn of(name: RecordName, wanted: Revision, confirmed: Revision, row: Option<&Stored>) -> View
         ensures { result ≡ viewed name wanted confirmed (option_copied row.entry) }

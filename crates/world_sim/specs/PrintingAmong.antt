@@ -1,0 +1,137 @@
+-- Runs among others whose reports and records are printed.
+use Rattle.std.specs.Prelude.{◌≡◌, ◌⊎◌, ◌+◌, ℕ, Bool, List, [], ◌∷◌, ◌++◌, Option, Some, None, is_some}
+use Rattle.std.specs.Prelude.{codes, length, map}
+use Rattle.std.specs.FinMap as fin
+use Rattle.std.specs.Fmt.{decimal}
+use Rattle.std.specs.Io.KnownBytes.{Appends}
+use Rattle.std.specs.List.{AllByRecursion}
+use Rattle.scim_key.specs.declared.records.RecordName.{RecordName}
+use Rattle.provider_core.specs.declared.registry.Registry.{Ghosts as Registries}
+use Rattle.journal_core.specs.declared.journals.Journal.{Ghosts as Journals}
+use Rattle.mapping.specs.Settling.{IsSettleOrder}
+use Rattle.world_model.specs.Invariant.{Names}
+use Rattle.world_model.specs.Others.{run_among}
+use Rattle.world_model.specs.Room.{HasRoom}
+use Rattle.world_model.specs.World.{World, Event, empty, names as world_names, run}
+use Rattle.world_sim.specs.Amid.{IsApartFrom, RunsAmongFromEmpty, act_text, acts_of}
+use Rattle.world_sim.specs.FollowingAmong.{EndsTellingAmong, RunsTellingAmong}
+use Rattle.world_sim.specs.Printing.{SettlesIf, ShowsAll, others_lines, settled_lines, view_lines}
+use Rattle.world_sim.specs.Running.{IsAmong, IsSound}
+use Rattle.world_sim.specs.Settling.{IsSendOrDeliver, IsSettling}
+use Rattle.world_sim.specs.Strangers.{strangers}
+use Rattle.world_sim.specs.Views.{view}
+use Rattle.world_sim.specs.declared.acting.Act.{Act}
+use Rattle.world_sim.specs.declared.acting.ActReport.{ActReport}
+use Rattle.world_sim.specs.declared.following.TellingFault.{TellingFault}
+use Rattle.world_sim.specs.declared.printing_among.ActLines.{ActLines}
+use Rattle.world_sim.specs.declared.printing_among.PrintedAmong.{PrintedAmong}
+use Rattle.world_sim.specs.declared.settling.Count.{Count}
+use Rattle.world_sim.specs.declared.views.View.{View}
+use Rattle.world_sim.specs.declared.worlds.World.{World as Running}
+
+-- ---- reports
+
+-- the line of the report with this number
+abbrev pub act_line : (number : ℕ) → ActReport → List ℕ
+act_line number report = decimal number ++ (codes " " ++ (act_text report ++ codes "\n"))
+
+-- the lines of reports, the first of which has this number
+abbrev pub act_lines : (number : ℕ) → List ActReport → List ℕ
+act_lines number [] = []
+act_lines number (report ∷ reports) = act_line number report ++ act_lines (number + 1) reports
+
+-- the reports that were printed
+abbrev pub printed_acts : {W : Type 0} → ActLines W → List ActReport
+printed_acts lines = lines.reports.items
+
+-- one more report was printed, as the next line
+pub record PrintsAct {W : Type 0} (contents : W → Option (List ℕ)) (old : ActLines W) (report : ActReport)
+    (new : ActLines W) : Type 0 where
+  pub added : new.reports.items ≡ old.reports.items ++ report ∷ []
+  pub line : Appends (contents old.out) (contents new.out) (act_line (length old.reports.items + 1) report)
+
+-- ---- what is printed after the reports
+
+-- these are the views of the records that others wrote by rows and that aren't ours: users by key, then groups by key
+pub record AreOfOthers (w : World) (all : List Act) (views : List View) : Type 0 where
+  pub names : List RecordName
+  pub ordered : IsSettleOrder (strangers (world_names w) all) names
+  pub shown : views ≡ map (view w) names
+
+-- a look at those records: each world that ran before runs after it
+pub record ShowsOthers {R J : Type 0} (g : Registries R) (h : Journals J) (old new : Running R J) (all : List Act)
+    (views : List View) : Type 0 where
+  pub was : IsSound g h new → IsSound g h old
+  pub is : IsSound g h new → {ours : Names} (w : World) → IsAmong g h ours old w → IsAmong g h ours new w
+  pub shown : IsSound g h new → {ours : Names} (w : World) → IsAmong g h ours old w → AreOfOthers w all views
+
+-- our records were settled if that was asked for, and then ours and those of others shown, each with its line
+pub record EndsAmong {R J : Type 0} (g : Registries R) (h : Journals J) (all : List Act) (asked : Bool)
+    (world : Running R J) (before after : Option (List ℕ)) (printed : PrintedAmong R J) : Type 0 where
+  pub count : Option Count
+  pub settled : Running R J
+  pub shown : Running R J
+  pub settles : SettlesIf g h asked world settled count
+  pub shows : ShowsAll g h settled shown printed.views.items
+  pub shows_others : ShowsOthers g h shown printed.world all printed.others.items
+  pub lines : Appends before after
+      (settled_lines count ++ (view_lines printed.views.items ++ others_lines printed.others.items))
+
+-- ---- the whole run
+
+-- Sends and deliveries lead from w to v; if the provider has room for our records, they are a run to convergence
+pub record IsSettlingAmong (w : World) (exchanges : ℕ) (v : World) : Type 0 where
+  pub events : List Event
+  pub only : AllByRecursion IsSendOrDeliver events
+  pub is : v ≡ run w events
+  pub settling : HasRoom w → IsSettling w exchanges v
+
+-- the same if settling was asked for; otherwise v is w
+abbrev pub ReachesAmong : World → Option Count → World → Type 0
+ReachesAmong w None v = v ≡ w
+ReachesAmong w (Some count) v = IsSettlingAmong w count.exchanges v
+
+-- The world after the model's run of the acts, settled if that was asked for, is one of which these are the views of our
+-- records and of those that others wrote by rows
+pub record IsOfAmong (all : List Act) (count : Option Count) (views others : List View) : Type 0 where
+  pub last : World
+  pub reaches : ReachesAmong (run_among empty (acts_of empty all)) count last
+  pub shown : views ≡ map (view last) (world_names last)
+  pub of_others : AreOfOthers last all others
+
+-- What was printed: a line for each act with its report, the count if settling was asked for, a line for each record of
+-- ours, and one for each other record that others wrote by a row. If both stores were empty, the provider's open, and
+-- both returned what was committed, and if others left our records alone, whichever these are, all this is the model's;
+-- and the promise among others holds (`promise`: of the world that ran when the acts were done)
+pub record PrintsAmong {R J W : Type 0} (g : Registries R) (h : Journals J) (contents : W → Option (List ℕ))
+    (registry : R) (journal : J) (base : List ℕ) (all : List Act) (asked : Bool) (before after : ActLines W)
+    (printed : PrintedAmong R J) : Type 0 where
+  pub reports : List ActReport
+  pub count : Option Count
+  pub added : after.reports.items ≡ before.reports.items ++ reports
+  pub one_each : length reports ≡ length all
+  pub counted : is_some count ≡ asked
+  pub lines : Appends (contents before.out) (contents after.out)
+      (act_lines (length before.reports.items + 1) reports
+      ++ (settled_lines count ++ (view_lines printed.views.items ++ others_lines printed.others.items)))
+  pub ran : Running R J
+  pub was : IsSound g h printed.world → IsSound g h ran
+  pub promise : RunsAmongFromEmpty g h registry journal base all ran reports
+  pub so : g.is_faithful registry → g.rows registry ≡ [] → h.entries journal ≡ fin.empty → IsSound g h printed.world
+      → (ours : Names) → AllByRecursion (IsApartFrom ours) all
+      → IsOfAmong all count printed.views.items printed.others.items
+
+-- all acts were done and their reports printed, and something failed after them
+pub record StopsAfterAmong {R J W : Type 0} (g : Registries R) (h : Journals J) (contents : W → Option (List ℕ))
+    (registry : R) (journal : J) (base : List ℕ) (all : List Act) (before after : ActLines W) : Type 0 where
+  pub between : ActLines W
+  pub ran : Running R J
+  pub runs : RunsTellingAmong g h printed_acts (PrintsAct contents) registry journal base all before between ran
+  pub kept : after.reports ≡ between.reports
+
+-- Why a run ended early: as it does if its reports are told, or after all of them
+abbrev pub EndsPrintingAmong : {R J W E : Type 0} → Registries R → Journals J → (contents : W → Option (List ℕ)) → R
+    → J → (base : List ℕ) → List Act → (before after : ActLines W) → TellingFault E → Type 0
+EndsPrintingAmong g h contents registry journal base all before after fault =
+    EndsTellingAmong g h printed_acts (PrintsAct contents) registry journal base all before after fault
+    ⊎ StopsAfterAmong g h contents registry journal base all before after

@@ -1,0 +1,151 @@
+//! Runs among others whose reports and records are printed.
+ghost use Rattle.std.specs.Prelude.{◌≡◌, [], IfErr, IfOk, OnOk, true};
+ghost use Rattle.std.specs.Io.KnownBytes.{Appends};
+ghost use Rattle.mapping.specs.Settling.{IsSettleOrder};
+ghost use Rattle.world_sim.specs.Printing.{others_lines};
+ghost use Rattle.world_sim.specs.PrintingAmong.{EndsAmong, EndsPrintingAmong, PrintsAct, PrintsAmong, ShowsOthers, act_line, printed_acts};
+ghost use Rattle.world_sim.specs.Running.{is_open, names_in};
+ghost use Rattle.world_sim.specs.Strangers.{strangers};
+
+use crate::acting::{Act, ActReport};
+use crate::among::run_telling_among;
+use crate::following::{Follow, TellingFault};
+use crate::printing::{Whose, flush, print_each, print_settling, print_views};
+use crate::reports::WorldFault;
+use crate::strangers::strangers;
+use crate::views::View;
+use crate::worlds::World;
+use journal_core::{Journal, ReopenJournal};
+use provider_core::{Registry, Reopen};
+use scim_key::{Base, RecordName};
+use std::alloc::Global;
+use std::io;
+use std::io::Write;
+
+/// Prints a line for each report of an act as soon as it is told: its number, and what it says: `2 other 201`.
+#[derive(Drop)]
+pub struct ActLines<W: Write + Drop> {
+    pub out: W,
+    /// The reports so far.
+    pub reports: Vec<ActReport>,
+}
+
+impl<W: Write + Drop> ActLines<W> {
+    /// No line is printed yet.
+    pub fn new(alloc: Global, out: W) -> ActLines<W>
+        ensures out { result.out ≡ out }
+        ensures none { result.reports.items ≡ [] }
+    {
+        ActLines {
+            out,
+            reports: Vec::new(alloc),
+        }
+    }
+}
+
+/// Prints the line of the report with this number.
+fn print_act<W: Write>(out: &mut W, number: usize, report: &ActReport) -> io::Result<()>
+    ensures { OnOk result (Appends (W.contents out.old) (W.contents out.new)
+        (act_line number report.now)) }
+{
+    writeln!(out, "{number} {report}")
+}
+
+impl<W: Write + Drop> Follow<ActReport> for ActLines<W> {
+    type Fault = io::Error;
+
+    ghost told = { printed_acts };
+
+    ghost does = { PrintsAct W.contents };
+
+    fn tell(&mut self, report: ActReport) -> io::Result<()> {
+        let number = self.reports.len() + 1;
+        print_act(&mut self.out, number, &report)?;
+        self.reports.push(report)?;
+        Ok(())
+    }
+}
+
+/// The world and the views of its records, after a run among others whose lines were printed.
+#[derive(Drop)]
+pub struct PrintedAmong<R: Registry, J: Journal> {
+    pub world: World<R, J>,
+    /// Of our records.
+    pub views: Vec<View>,
+    /// Of the records that others wrote by rows and that aren't ours.
+    pub others: Vec<View>,
+}
+
+/// Runs acts as `run_telling_among` does, and prints the line of each report as it comes. Then it settles every
+/// record of ours if that is asked for, and prints how many exchanges that took. Then it prints a line for each
+/// record of ours, and for each other record that others wrote by a row: users by key, then groups by key.
+pub fn print_run_among<R: Reopen + Drop, J: ReopenJournal + Drop, W: Write + Drop>(
+    alloc: Global,
+    registry: R,
+    journal: J,
+    base: Base,
+    acts: &[Act],
+    settles: bool,
+    lines: &mut ActLines<W>,
+) -> Result<PrintedAmong<R, J>, TellingFault<io::Error>>
+    ensures prints { IfOk result (PrintsAmong R.Registry J.Journal W.contents registry journal base
+        acts.now settles lines.old lines.new) }
+    ensures fault { IfErr result
+        (EndsPrintingAmong R.Registry J.Journal W.contents registry journal base
+        acts.now lines.old lines.new) }
+{
+    let world = run_telling_among(alloc, registry, journal, base, acts, lines)?;
+    print_end_among(alloc, world, acts, settles, &mut lines.out)
+}
+
+/// Settles every record of a world if that is asked for, and then prints our records and those of others.
+fn print_end_among<R: Registry + Drop, J: Journal + Drop, W: Write>(
+    alloc: Global,
+    mut world: World<R, J>,
+    acts: &[Act],
+    settles: bool,
+    out: &mut W,
+) -> Result<PrintedAmong<R, J>, TellingFault<io::Error>>
+    ensures { IfOk result (EndsAmong R.Registry J.Journal acts.now settles world
+        (W.contents out.old) (W.contents out.new)) }
+{
+    print_settling(&mut world, settles, out)?;
+    let views = print_views(alloc, &mut world, out)?;
+    let others = print_others(alloc, &mut world, acts, out)?;
+    flush(out)?;
+    Ok(PrintedAmong {
+        world,
+        views,
+        others,
+    })
+}
+
+/// The names of the records that others wrote by rows and that aren't ours.
+fn others_of<R: Registry + Drop, J: Journal + Drop>(
+    alloc: Global,
+    world: &World<R, J>,
+    acts: &[Act],
+) -> Result<Vec<RecordName>, WorldFault>
+    ensures names { IfOk result (λ names. IsSettleOrder
+        (strangers (names_in J.Journal world.now.connector) acts.now) names.items) }
+    ensures open { OnOk result (is_open world.now.connector ≡ true) }
+{
+    let names = world.names()?;
+    Ok(strangers(alloc, names.as_slice(), acts)?)
+}
+
+/// Prints a line for each record that others wrote by a row and that isn't ours.
+fn print_others<R: Registry + Drop, J: Journal + Drop, W: Write>(
+    alloc: Global,
+    world: &mut World<R, J>,
+    acts: &[Act],
+    out: &mut W,
+) -> Result<Vec<View>, TellingFault<io::Error>>
+    ensures shows { IfOk result
+        (λ views. ShowsOthers R.Registry J.Journal world.old world.new acts.now views.items) }
+    ensures lines { IfOk result (λ views. Appends (W.contents out.old) (W.contents out.new)
+        (others_lines views.items)) }
+{
+    let names = others_of(alloc, world, acts)?;
+    print_each(alloc, world, names.as_slice(), Whose::Others, out)
+}

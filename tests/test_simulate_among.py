@@ -1,0 +1,105 @@
+"""`simulate` among others, who write at the same provider.
+
+What each schedule prints was worked out by hand from the rules of the protocol.
+"""
+from support import EXAMPLES, ProgramTest, scimlink, text
+
+# What the schedule in the examples prints
+OF_THE_EXAMPLE = """\
+1 other 201
+2 other 200
+3 new
+4 waits bob
+5 find 1
+6 answer 2 200
+7 absent
+8 create 3
+9 answer 4 201
+10 confirmed 1
+11 other 201
+user bob wanted=1 confirmed=1 held=1 version=1 active=true
+other user dee held=1 version=2 active=false
+other group crew held=1 version=1 members=2"""
+
+
+class SimulateAmongTest(ProgramTest):
+    def simulate(self, *lines, settle=False):
+        """A run of the schedule of these lines."""
+        path = self.folder / "schedule"
+        path.write_text(text(*lines), encoding="utf-8")
+        return scimlink("simulate", path, *["--settle"] * settle)
+
+    def test_the_example(self):
+        run = scimlink("simulate", EXAMPLES / "others.schedule")
+        self.assert_prints(run, *OF_THE_EXAMPLE.split("\n"))
+
+    def test_creation_and_replacement(self):
+        creation = "other user Dee,1,,Dee,,,active,Sales"
+        self.assert_prints(self.simulate(creation), "1 other 201", "other user dee held=1 version=1 active=true")
+        run = self.simulate(creation, "other user DEE,4,,,,,left")
+        self.assert_prints(run, "1 other 201", "2 other 200", "other user dee held=4 version=2 active=false")
+        # others may go back: nobody keeps them from it
+        run = self.simulate(creation, "other user dee,4,,,,,left", "other user dee,2,,,,,active")
+        reports = ["1 other 201", "2 other 200", "3 other 200"]
+        self.assert_prints(run, *reports, "other user dee held=2 version=3 active=true")
+
+    def test_a_group_waits_for_its_first_member_by_key(self):
+        acts = ["other group crew,1,zoe Ann bob", "other user ann,1,,,,,active", "other group crew,1,zoe Ann bob"]
+        waiting = "other group crew held=0 version=0 members=0"
+        ann = "other user ann held=1 version=1 active=true"
+        self.assert_prints(self.simulate(*acts), "1 waits ann", "2 other 201", "3 waits bob", ann, waiting)
+        acts += ["other user zoe,1,,,,,active", "other user bob,1,,,,,active", "other group crew,2,zoe Ann bob"]
+        views = [f"other user {key} held=1 version=1 active=true" for key in ("ann", "bob", "zoe")]
+        reports = ["1 waits ann", "2 other 201", "3 waits bob", "4 other 201", "5 other 201", "6 other 201"]
+        self.assert_prints(self.simulate(*acts), *reports, *views, "other group crew held=2 version=1 members=3")
+        run = self.simulate(*acts, "other group Crew,3,bob")
+        self.assert_prints(run, *reports, "7 other 200", *views, "other group crew held=3 version=2 members=1")
+
+    def test_a_group_without_members(self):
+        run = self.simulate("other group Crew,1,")
+        self.assert_prints(run, "1 other 201", "other group crew held=1 version=1 members=0")
+
+    def test_a_name_of_ours_that_others_take(self):
+        lines = ["user bob,1,,,,,active", "# others come first", "send user bob", "deliver 1", "deliver 2"]
+        lines += ["", "other user bob,3,,,,,left", "send user bob", "deliver 3", "deliver 4"]
+        lines += ["send user bob", "deliver 5", "deliver 6"]
+        reports = ["1 new", "2 find 1", "3 answer 2 200", "4 absent", "5 other 201", "6 create 3"]
+        # what others wrote has a higher revision than the source's
+        reports += ["7 answer 4 409", "8 forgotten", "9 find 5", "10 answer 6 200", "11 C1"]
+        bob = "user bob wanted=1 confirmed=0 held=3 version=1 active=false"
+        told = "schedule line 7: others write user bob, a record of the source"
+        self.assert_prints(self.simulate(*lines), *reports, bob, status=1, errors=[told])
+
+    def test_each_line_about_a_record_of_the_source_is_told(self):
+        lines = ["other user BOB,1,,,,,active", "other user dee,1,,,,,active", "other group bob,1,", "other user bob,1,,,,,left"]
+        lines += ["user bob,1,,,,,active", "group crew,1,bob", "send user bob", "other group crew,1,bob"]
+        reports = ["1 other 201", "2 other 201", "3 other 201", "4 other 200", "5 new", "6 new", "7 find 1", "8 other 201"]
+        views = ["user bob wanted=1 confirmed=0 held=1 version=2 active=false"]
+        views += ["group crew wanted=1 confirmed=0 held=1 version=1 members=1"]
+        others = ["other user dee held=1 version=1 active=true", "other group bob held=1 version=1 members=0"]
+        errors = [f"schedule line {line}: others write user bob, a record of the source" for line in (1, 4)]
+        errors += ["schedule line 8: others write group crew, a record of the source"]
+        self.assert_prints(self.simulate(*lines), *reports, *views, *others, status=1, errors=errors)
+
+    def test_settling_among_others(self):
+        lines = ["user bob,2,,,,,active", "group crew,1,bob", "other user dee,1,,,,,active", "send user bob"]
+        reports = ["1 new", "2 new", "3 other 201", "4 find 1"]
+        dee = "other user dee held=1 version=1 active=true"
+        views = ["user bob wanted=2 confirmed=2 held=2 version=1 active=true"]
+        views += ["group crew wanted=1 confirmed=1 held=1 version=1 members=1"]
+        # of each record: a search that finds none, and a creation
+        self.assert_prints(self.simulate(*lines, settle=True), *reports, "settled in 4 exchanges", *views, dee)
+
+    def test_the_status_is_that_of_ours(self):
+        rows = ["user bob,2,,,,,active", "user bob,2,,,,,left", "other user dee,1,,,,,active"]
+        views = ["user bob wanted=2 confirmed=0 held=0 version=0 active=-", "other user dee held=1 version=1 active=true"]
+        self.assert_prints(self.simulate(*rows), "1 new", "2 S7", "3 other 201", *views, status=1)
+
+    def test_others_alone_settle_nothing(self):
+        dee = "other user dee held=1 version=1 active=true"
+        run = self.simulate("other user dee,1,,,,,active", settle=True)
+        self.assert_prints(run, "1 other 201", "settled in 0 exchanges", dee)
+
+    def test_a_later_line_that_says_nothing(self):
+        run = self.simulate("other user dee,1,,,,,active", "user bob,1,,,,,active", "other user", "deliver")
+        self.assert_prints(run, status=1, errors=["schedule line 3: L1"])
