@@ -9,11 +9,11 @@ use Rattle.world_sim.specs.Schedules.{ReadsFiles, change_in}
 use Rattle.world_sim.specs.declared.events.Event.{Event}
 
 -- a word whose remainder is below 2 draws a change
-pub change_drawn : (records_in : List ℕ → List Record) (counters : List ℕ) (word : ℕ) (event : Event) → word % 8 < 2
-    → change_in records_in (kind_at (word / 8 % 4)) (record_at (word / 8 % 4) (risen (slice_index counters (word / 8 % 4)))) ≡ Some event
-    → event_drawn records_in counters word ≡ Some event
+pub change_drawn : (records_in : List ℕ → List Record) (suffix counters : List ℕ) (word : ℕ) (event : Event) → word % 8 < 2
+    → change_in records_in (kind_at (word / 8 % 4)) (record_at suffix (word / 8 % 4) (risen (slice_index counters (word / 8 % 4)))) ≡ Some event
+    → event_drawn records_in suffix counters word ≡ Some event
 unfolding event_drawn
-change_drawn records_in counters word event less is =
+change_drawn records_in suffix counters word event less is =
     let flag : nat_lt (word % 8) 2 ≡ true = search rules in
     rw flag is
 
@@ -23,7 +23,7 @@ AreDrawnSoFar generator counters seed count done events = (records_in : List ℕ
     → map Some events ++ drawn records_in generator counters (count - done) ≡ seed_draws records_in seed count
 
 pub one_drawn : (old new : Lcg) (counters later : List ℕ) (seed count done : ℕ) (events : List Event) (event : Event) → done < count
-    → ((records_in : List ℕ → List Record) → ReadsFiles records_in → event_drawn records_in counters (pcg32 old).0 ≡ Some event)
+    → ((records_in : List ℕ → List Record) → ReadsFiles records_in → event_drawn records_in [] counters (pcg32 old).0 ≡ Some event)
     → new ≡ (pcg32 old).1 → later ≡ counters_after counters (pcg32 old).0
     → AreDrawnSoFar old counters seed count done events → AreDrawnSoFar new later seed count (done + 1) (events ++ event ∷ [])
 one_drawn old new counters later seed count done events event less is next counted far records_in reads =

@@ -15,3 +15,5 @@ pub mod Lines
 pub mod Amid
 pub mod Printing
 pub mod Random
+pub mod Several
+pub mod SeveralLines

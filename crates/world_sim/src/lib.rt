@@ -14,7 +14,9 @@ mod reports;
 mod runs;
 mod schedules;
 mod settling;
+mod several;
 mod sides;
+mod turns;
 mod views;
 mod worlds;
 
@@ -28,5 +30,7 @@ pub use reports::{Report, WorldFault};
 pub use runs::run;
 pub use schedules::{NUMBER_DIGITS, ScheduleFault, read_schedule};
 pub use settling::{Count, MOST_EXCHANGES, settle};
+pub use several::{SharedWorld, Turn, TurnReport};
+pub use turns::random_turns;
 pub use views::View;
 pub use worlds::World;
