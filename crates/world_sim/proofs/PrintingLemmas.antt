@@ -47,12 +47,13 @@ view_lines-push (first ∷ views) shown = ap (λ l. view_line first ++ l) (view_
 -- the records before this place were shown
 pub record AreShownSoFar {R J : Type 0} (g : Registries R) (h : Journals J) (old new : Running R J) (names : List RecordName) (views : List View) : Type 0 where
   pub was : IsSound g h new → IsSound g h old
+  pub base : new.service ≡ old.service
   pub is : IsSound g h new → {ours : Names} (w : World) → IsAmong g h ours old w → IsAmong g h ours new w
   pub shown : IsSound g h new → {ours : Names} (w : World) → IsAmong g h ours old w → views ≡ map (view w) names
 
 module _ {R J : Type 0} (g : Registries R) (h : Journals J) where
   pub none_shown : (r : Running R J) → AreShownSoFar g h r r [] []
-  none_shown r = record { was = λ sound. sound; is = λ sound w is. is; shown = λ sound w is. refl }
+  none_shown r = record { was = λ sound. sound; base = refl; is = λ sound w is. is; shown = λ sound w is. refl }
 
   pub one_shown : (old mid new : Running R J) (names : List RecordName) (i : ℕ) (name : RecordName) (views : List View) (one : View) → i < length names → name ≡ get_or names i name
       → AreShownSoFar g h old mid (take i names) views → Shows g h mid new name one → Looks g h mid new → AreShownSoFar g h old new (take (i + 1) names) (views ++ one ∷ [])
@@ -60,6 +61,7 @@ module _ {R J : Type 0} (g : Registries R) (h : Journals J) where
       let next : take (i + 1) names ≡ take i names ++ name ∷ [] = (let one_on : i + 1 ≡ suc i = omega arith in ap (λ n. take n names) one_on ∙ take-suc names i name less ∙ ap (λ n. take i names ++ n ∷ []) (sym at)) in
       subst (λ ns. AreShownSoFar g h old new ns (views ++ one ∷ [])) (sym next) (record {
         was = λ sound. far.was (looks.was sound);
+        base = looks.base ∙ far.base;
         is = λ sound w is. looks.is sound w (far.is (looks.was sound) w is);
         shown = λ sound w is. all_of sound w is;
       })
@@ -82,6 +84,7 @@ module _ {R J : Type 0} (g : Registries R) (h : Journals J) where
       → AreShownSoFar g h old new names views → ShowsAll g h old new views
   all_shown old new names views are opened far = record {
     was = far.was;
+    base = far.base;
     is = far.is;
     shown = λ sound w is. far.shown sound w is ∙ ap (map (view w)) (are ∙ names_are old w opened is);
   }

@@ -16,4 +16,4 @@ pub mod Amid
 pub mod Printing
 pub mod Random
 pub mod Several
-pub mod SeveralLines
+pub mod SeveralPrinting

@@ -1,23 +1,24 @@
 -- Several connectors that run over one provider, each with its journal, its book and its messages.
-use Rattle.std.specs.Prelude.{◌≡◌, ◌≢◌, ◌<◌, ◌+◌, ◌⊎◌, ℕ, zero, suc, List, [], ◌∷◌, ◌++◌, map, length, slice_set, Some}
+use Rattle.std.specs.Prelude.{◌≡◌, ◌≢◌, ◌<◌, ◌+◌, ◌-◌, ◌^◌, ℕ, zero, suc, List, [], ◌∷◌, ◌++◌, map, length, min, slice_set, Some}
 use Rattle.std.specs.FinMap as fin
 use Rattle.std.specs.List.{AllByRecursion, slice_get}
-use Rattle.scim_key.specs.Stores.{HasRisen}
 use Rattle.provider_core.specs.declared.registry.Registry.{Ghosts as Registries}
 use Rattle.journal_core.specs.declared.journals.Journal.{Ghosts as Journals}
 use Rattle.world_model.specs.Invariant.{Names}
 use Rattle.world_model.specs.Others.{HeadlineAmong, OfOurs, SafeAmong}
 use Rattle.world_model.specs.Reports.{Report, report}
 use Rattle.world_model.specs.Safe.{Onward}
-use Rattle.world_model.specs.Several.{Shared, nobody, world_at, Turn, On, happens_at, run_several, side_after}
+use Rattle.world_model.specs.Room.{HasRoom}
+use Rattle.world_model.specs.Several.{Shared, nobody, world_at, with_world, Turn, On, happens_at, run_several, side_after}
 use Rattle.world_model.specs.Several.{NoneShared, EachItsOwn}
-use Rattle.world_model.specs.World.{Message, Event}
+use Rattle.world_model.specs.World.{World, Message, Event}
 use Rattle.world_sim.specs.Amid.{FailsOurs}
 use Rattle.world_sim.specs.Events.{event_of, report_of}
 use Rattle.world_sim.specs.Messages.{message_size}
 use Rattle.world_sim.specs.Running.{Happens, IsAmong, IsSound, Starts, journal_in}
+use Rattle.world_sim.specs.Settling.{IsSettling, Settles, Stops}
 use Rattle.world_sim.specs.declared.reports.WorldFault.{WorldFault}
-use Rattle.world_sim.specs.declared.reports.WorldFault.TheVariants.{Memory}
+use Rattle.world_sim.specs.declared.settling.Count.{Count}
 use Rattle.world_sim.specs.declared.several.Seat.{Seat}
 use Rattle.world_sim.specs.declared.several.SharedWorld.{SharedWorld}
 use Rattle.world_sim.specs.declared.several.Turn.{Turn as TurnOf}
@@ -91,6 +92,7 @@ pub record IsDoneAt {R J : Type 0} (old new : SharedWorld R J) (place : ℕ) (de
   pub is_there : IsSeatAt new place after
   pub does : deed (seated old.first before) (seated new.first after)
   pub others : (other : ℕ) → place ≢ other → slice_get (seats_of new) other ≡ slice_get (seats_of old) other
+  pub count : length (seats_of new) ≡ length (seats_of old)
 
 -- what a turn keeps, whatever it does: stores that are sound after it were sound before, and open stores stay open
 pub record GoesOnSharing {R J : Type 0} (g : Registries R) (h : Journals J) (old new : SharedWorld R J) : Type 0 where
@@ -130,6 +132,7 @@ turn_reports size s (turn ∷ turns) =
 pub record RunsSeveral {R J : Type 0} (g : Registries R) (h : Journals J) (old new : SharedWorld R J)
     (turns : List TurnOf) (said : List TurnReport) : Type 0 where
   pub on : GoesOnSharing g h old new
+  pub count : length (seats_of new) ≡ length (seats_of old)
   pub numbers : map (λ (t : TurnReport). t.connector) said ≡ map (λ (turn : TurnOf). turn.place + 1) turns
   pub is : AreSound g h new → {ours : ℕ → Names} (s : Shared) → AreAmong g h ours old s
       → EachItsOwn ours (turns_of turns) → AreAmong g h ours new (run_several s (turns_of turns))
@@ -145,7 +148,8 @@ IsNew h journal = h.entries journal ≡ fin.empty
 
 -- Connectors that start, one over each journal: over empty stores, each side is the empty world
 pub record StartsSeveral {R J : Type 0} (g : Registries R) (h : Journals J) (registry : R) (journals : List J)
-    (r : SharedWorld R J) : Type 0 where
+    (base : List ℕ) (r : SharedWorld R J) : Type 0 where
+  pub base_is : r.first.service ≡ base
   pub stays_open : g.is_faithful registry → g.is_faithful r.first.provider
   pub journals_open : AreSound g h r → AreOpen h r
   pub count : length (seats_of r) ≡ length journals
@@ -186,10 +190,37 @@ RunsSeveralFromEmpty g h registry journals base turns ran said =
     → (ours : ℕ → Names) → NoneShared ours → EachItsOwn ours (turns_of turns)
     → IsRunSeveral g h ours base turns ran said
 
--- ---- runs that ended early
+-- ---- runs to convergence
 
--- a connector couldn't start over this journal: out of memory, or a fault of the journal's store was counted
-pub record FailsToStart {J : Type 0} (h : Journals J) (fault : WorldFault) : Type 0 where
-  pub journal : J
-  pub left : J
-  pub counted : (fault ≡ Memory) ⊎ HasRisen (h.faults journal) (h.faults left)
+-- The records of the side at this place were settled, as `settle` does it in the world of that side, and all other
+-- sides are unchanged. Whatever they shared before, they share now what exchanges for that side's records make of it,
+-- and if the provider has room for these records, this was a run to convergence with this number of exchanges
+pub record SettlesAt {R J : Type 0} (g : Registries R) (h : Journals J) (old new : SharedWorld R J) (place : ℕ)
+    (count : Count) : Type 0 where
+  pub done : IsDoneAt old new place (λ was is. Settles g h was is count)
+  pub on : GoesOnSharing g h old new
+  pub is : AreSound g h new → {ours : ℕ → Names} (s : Shared) → AreAmong g h ours old s
+      → (v : World) × (HasRoom (world_at s place) → IsSettling (world_at s place) count.exchanges v)
+      × AreAmong g h ours new (with_world s place v)
+
+-- some exchanges were made for that side's records, and the next event failed
+abbrev pub StopsAt : {R J : Type 0} → Registries R → Journals J → (old new : SharedWorld R J) → (place : ℕ)
+    → WorldFault → Type 0
+StopsAt g h old new place fault = IsDoneAt old new place (λ was is. Stops g h was is fault)
+
+-- Runs to convergence of the sides before this place, in their order and by so many exchanges in all, lead from what is
+-- shared in s to what is shared in t: each is one if the provider has room for the records of that side
+abbrev pub AreSettling : Shared → (place : ℕ) → (exchanges : ℕ) → Shared → Type 0
+AreSettling s zero exchanges t = (t ≡ s) × (exchanges ≡ 0)
+AreSettling s (suc place) exchanges t =
+    (u : Shared) × (v : World) × (before here : ℕ) × AreSettling s place before u
+    × (HasRoom (world_at u place) → IsSettling (world_at u place) here v) × (t ≡ with_world u place v)
+    × (exchanges ≡ min (before + here) (2 ^ 32 - 1))
+
+-- The records of the sides before this place were settled, side after side
+pub record SettlesEach {R J : Type 0} (g : Registries R) (h : Journals J) (old new : SharedWorld R J) (place : ℕ)
+    (exchanges : ℕ) : Type 0 where
+  pub on : GoesOnSharing g h old new
+  pub count : length (seats_of new) ≡ length (seats_of old)
+  pub is : AreSound g h new → {ours : ℕ → Names} (s : Shared) → AreAmong g h ours old s
+      → (t : Shared) × AreSettling s place exchanges t × AreAmong g h ours new t

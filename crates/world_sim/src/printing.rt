@@ -127,7 +127,7 @@ fn print_settling<R: Registry + Drop, J: Journal + Drop, W: Write>(
 }
 
 /// Prints how many exchanges a run to convergence took.
-fn print_count<W: Write>(out: &mut W, count: Count) -> io::Result<()>
+pub(crate) fn print_count<W: Write>(out: &mut W, count: Count) -> io::Result<()>
     ensures { OnOk result (Appends (W.contents out.old) (W.contents out.new)
         (settled_lines (Some count))) }
 {
@@ -135,7 +135,7 @@ fn print_count<W: Write>(out: &mut W, count: Count) -> io::Result<()>
 }
 
 /// Prints a line for each record: users by key, then groups by key.
-fn print_views<R: Registry + Drop, J: Journal + Drop, W: Write>(
+pub(crate) fn print_views<R: Registry + Drop, J: Journal + Drop, W: Write>(
     alloc: Global,
     world: &mut World<R, J>,
     out: &mut W,
@@ -187,7 +187,7 @@ fn print_line<W: Write>(out: &mut W, view: &View) -> io::Result<()>
 }
 
 /// Flushes what was printed.
-fn flush<W: Write>(out: &mut W) -> io::Result<()>
+pub(crate) fn flush<W: Write>(out: &mut W) -> io::Result<()>
     ensures { Keeps (W.contents out.old) (W.contents out.new) }
 {
     out.flush()
