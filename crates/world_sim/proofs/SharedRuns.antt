@@ -17,15 +17,16 @@ use Rattle.world_model.specs.World.{World, Message, names as world_names}
 use Rattle.world_model.proofs.Several.{always_safe_for_each, always_onward_for_each, headline_holds_for_each}
 use Rattle.world_sim.specs.Events.{event_of, report_of}
 use Rattle.world_sim.specs.Messages.{message_size}
-use Rattle.world_sim.specs.Printing.{ShowsAll, view_lines}
+use Rattle.world_sim.specs.Printing.{ShowsAll, settled_lines, view_lines}
 use Rattle.world_sim.specs.Running.{IsAmong, IsSound, Starts, journal_in}
 use Rattle.world_sim.specs.Several.{Adds, AreAmong, AreOpen, AreSettling, AreSound, GoesOnSharing, HappensAt, IsBelow, IsDoneAt, IsNew, IsRunSeveral, IsSeatAt, RunsSeveral, RunsSeveralFromEmpty, SettlesAt, SettlesEach, StartsSeveral, seat_of, seated, seats_of, turn_of, turn_report_of, turn_reports, turns_of}
-use Rattle.world_sim.specs.SeveralPrinting.{ShowsAt, ShowsEach, turn_line, turn_lines, views_lines, views_of}
+use Rattle.world_sim.specs.SeveralPrinting.{PrintsSeveral, ReachesEach, SettlesEachIf, ShowsAt, ShowsEach, turn_line, turn_lines, views_lines, views_of}
 use Rattle.world_sim.specs.Views.{view}
 use Rattle.world_sim.specs.declared.several.Seat.{Seat}
 use Rattle.world_sim.specs.declared.several.SharedWorld.{SharedWorld}
 use Rattle.world_sim.specs.declared.several.Turn.{Turn as TurnOf}
 use Rattle.world_sim.specs.declared.several.TurnReport.{TurnReport}
+use Rattle.world_sim.specs.declared.several_printing.PrintedSeveral.{PrintedSeveral}
 use Rattle.world_sim.specs.declared.settling.Count.{Count}
 use Rattle.world_sim.specs.declared.views.View.{View}
 use Rattle.world_sim.specs.declared.worlds.World.{World as Running}
@@ -269,3 +270,57 @@ module _ {R J : Type 0} (g : Registries R) (h : Journals J) where
     where
       was : AreSound g h new → AreSound g h mid
       was sound = sound_before g h mid new place _ one one.does.was sound
+
+  -- ---- the whole run, printed
+
+  each_counted : (asked : Bool) (old new : SharedWorld R J) (count : Option Count) → SettlesEachIf g h asked old new count → is_some count ≡ asked
+  each_counted true old new (Some count) settles = refl
+  each_counted true old new None settles = absurd settles
+  each_counted false old new (Some count) settles = absurd settles
+  each_counted false old new None settles = refl
+
+  each_was : (asked : Bool) (old new : SharedWorld R J) (count : Option Count) → SettlesEachIf g h asked old new count → AreSound g h new → AreSound g h old
+  each_was true old new (Some count) settles sound = settles.on.was sound
+  each_was true old new None settles sound = absurd settles
+  each_was false old new (Some count) settles sound = absurd settles
+  each_was false old new None settles sound = subst (AreSound g h) settles sound
+
+  each_many : (asked : Bool) (old new : SharedWorld R J) (count : Option Count) → SettlesEachIf g h asked old new count → length (seats_of new) ≡ length (seats_of old)
+  each_many true old new (Some count) settles = settles.count
+  each_many true old new None settles = absurd settles
+  each_many false old new (Some count) settles = absurd settles
+  each_many false old new None settles = ap (λ r. length (seats_of r)) settles
+
+  each_reaches : (asked : Bool) (old new : SharedWorld R J) (count : Option Count) → SettlesEachIf g h asked old new count → AreSound g h new → {ours : ℕ → Names} (s : Shared) → AreAmong g h ours old s
+      → (t : Shared) × ReachesEach s (length (seats_of old)) count t × AreAmong g h ours new t
+  each_reaches true old new (Some count) settles sound s among = settles.is sound s among
+  each_reaches true old new None settles sound s among = absurd settles
+  each_reaches false old new (Some count) settles sound s among = absurd settles
+  each_reaches false old new None settles sound {ours} s among = (s, refl, subst (λ r. AreAmong g h ours r s) (sym settles) among)
+
+  pub all_printed_several : (first ran settled : SharedWorld R J) (registry : R) (journals : List J) (base : List ℕ) (turns : List TurnOf) (asked : Bool) (count : Option Count)
+      (before : Option (List ℕ)) (after : Option (List ℕ)) (printed : PrintedSeveral R J)
+      → StartsSeveral g h registry journals base first → RunsSeveral g h first ran turns printed.reports.items → SettlesEachIf g h asked ran settled count
+      → ShowsEach g h settled printed.world (length (seats_of settled)) (map (λ views. views.items) printed.views.items)
+      → Appends before after (turn_lines 1 printed.reports.items ++ (settled_lines count ++ views_lines (map (λ views. views.items) printed.views.items)))
+      → PrintsSeveral g h registry journals base turns asked before after printed
+  all_printed_several first ran settled registry journals base turns asked count before after printed starts runs settles shows lines = record {
+    numbers = runs.numbers;
+    count = count;
+    counted = each_counted asked ran settled count settles;
+    lines = lines;
+    so = λ faithful rows empty sound ours none_shared own.
+        let at_end = shows.was sound in
+        let is_run = ran_several first ran registry journals base turns printed.reports.items starts runs faithful rows empty (each_was asked ran settled count settles at_end) ours none_shared own in
+        let (t, reached, there) = each_reaches asked ran settled count settles at_end (run_several nobody (turns_of turns)) is_run.is in
+        record {
+          ran = ran;
+          run = is_run;
+          last = t;
+          reaches = subst (λ n. ReachesEach (run_several nobody (turns_of turns)) n count t) many reached;
+          shown = shows.shown sound t there ∙ ap (views_of t) (each_many asked ran settled count settles ∙ many);
+        };
+  }
+    where
+      many : length (seats_of ran) ≡ length journals
+      many = runs.count ∙ starts.count
