@@ -47,7 +47,7 @@ lines_of-push of (first ∷ views) shown = ap (λ l. line_of of first ++ l) (lin
 
 module _ {R J : Type 0} (g : Registries R) (h : Journals J) where
   pub none_shown : (r : Running R J) → ShowsEach g h r r [] []
-  none_shown r = record { was = λ sound. sound; is = λ sound w is. is; shown = λ sound w is. refl }
+  none_shown r = record { was = λ sound. sound; base = refl; is = λ sound w is. is; shown = λ sound w is. refl }
 
   pub one_shown : (old mid new : Running R J) (names : List RecordName) (i : ℕ) (name : RecordName) (views : List View) (one : View) → i < length names → name ≡ get_or names i name
       → ShowsEach g h old mid (take i names) views → Shows g h mid new name one → Looks g h mid new → ShowsEach g h old new (take (i + 1) names) (views ++ one ∷ [])
@@ -55,6 +55,7 @@ module _ {R J : Type 0} (g : Registries R) (h : Journals J) where
       let next : take (i + 1) names ≡ take i names ++ name ∷ [] = (let one_on : i + 1 ≡ suc i = omega arith in ap (λ n. take n names) one_on ∙ take-suc names i name less ∙ ap (λ n. take i names ++ n ∷ []) (sym at)) in
       subst (λ ns. ShowsEach g h old new ns (views ++ one ∷ [])) (sym next) (record {
         was = λ sound. far.was (looks.was sound);
+        base = looks.base ∙ far.base;
         is = λ sound w is. looks.is sound w (far.is (looks.was sound) w is);
         shown = λ sound w is. all_of sound w is;
       })
@@ -77,6 +78,7 @@ module _ {R J : Type 0} (g : Registries R) (h : Journals J) where
       → ShowsEach g h old new names views → ShowsAll g h old new views
   all_shown old new names views are opened far = record {
     was = far.was;
+    base = far.base;
     is = far.is;
     shown = λ sound w is. far.shown sound w is ∙ ap (map (view w)) (are ∙ names_are old w opened is);
   }

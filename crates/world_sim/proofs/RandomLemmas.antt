@@ -4,18 +4,10 @@ use Rattle.std.proofs.lemmas.List.{map_push}
 use Rattle.rand_pcg.specs.Lcg.{Lcg}
 use Rattle.rand_pcg.specs.Pcg.{pcg32}
 use Rattle.source_csv.specs.Fields.{Record}
-use Rattle.world_sim.specs.Random.{counters_after, drawn, event_drawn, kind_at, record_at, risen, seed_draws}
-use Rattle.world_sim.specs.Schedules.{ReadsFiles, change_in}
+use Rattle.world_sim.specs.Random.{all_after, counters_after, drawn, event_drawn, place_drawn, seed_draws, seed_draws_turns, turn_drawn, turns_drawn, word_drawn}
+use Rattle.world_sim.specs.Schedules.{ReadsFiles}
 use Rattle.world_sim.specs.declared.events.Event.{Event}
-
--- a word whose remainder is below 2 draws a change
-pub change_drawn : (records_in : List ℕ → List Record) (counters : List ℕ) (word : ℕ) (event : Event) → word % 8 < 2
-    → change_in records_in (kind_at (word / 8 % 4)) (record_at (word / 8 % 4) (risen (slice_index counters (word / 8 % 4)))) ≡ Some event
-    → event_drawn records_in counters word ≡ Some event
-unfolding event_drawn
-change_drawn records_in counters word event less is =
-    let flag : nat_lt (word % 8) 2 ≡ true = search rules in
-    rw flag is
+use Rattle.world_sim.specs.declared.several.Turn.{Turn}
 
 -- the events so far, and what the generator still draws, are all events of the seed
 abbrev pub AreDrawnSoFar : (generator : Lcg) → (counters : List ℕ) → (seed count done : ℕ) → List Event → Type 0
@@ -23,7 +15,7 @@ AreDrawnSoFar generator counters seed count done events = (records_in : List ℕ
     → map Some events ++ drawn records_in generator counters (count - done) ≡ seed_draws records_in seed count
 
 pub one_drawn : (old new : Lcg) (counters later : List ℕ) (seed count done : ℕ) (events : List Event) (event : Event) → done < count
-    → ((records_in : List ℕ → List Record) → ReadsFiles records_in → event_drawn records_in counters (pcg32 old).0 ≡ Some event)
+    → ((records_in : List ℕ → List Record) → ReadsFiles records_in → event_drawn records_in [] counters (pcg32 old).0 ≡ Some event)
     → new ≡ (pcg32 old).1 → later ≡ counters_after counters (pcg32 old).0
     → AreDrawnSoFar old counters seed count done events → AreDrawnSoFar new later seed count (done + 1) (events ++ event ∷ [])
 one_drawn old new counters later seed count done events event less is next counted far records_in reads =
@@ -41,3 +33,31 @@ pub all_drawn : (generator : Lcg) (counters : List ℕ) (seed count done : ℕ) 
 all_drawn generator counters seed count done events whole far records_in reads =
     let none : count - done ≡ 0 = omega (arith, whole) in
     sym (append-nil (map Some events)) ∙ ap (λ n. map Some events ++ drawn records_in generator counters n) (sym none) ∙ far records_in reads
+
+-- ---- turns of several connectors
+
+-- the turns so far, and what the generator still draws, are all turns of the seed
+abbrev pub AreTurnsSoFar : (generator : Lcg) → (all : List (List ℕ)) → (seed connectors count done : ℕ) → List Turn → Type 0
+AreTurnsSoFar generator all seed connectors count done turns = (records_in : List ℕ → List Record) → ReadsFiles records_in
+    → map Some turns ++ turns_drawn records_in generator all connectors (count - done) ≡ seed_draws_turns records_in seed connectors count
+
+pub one_turn_drawn : (old new : Lcg) (all later : List (List ℕ)) (seed connectors count done : ℕ) (turns : List Turn) (turn : Turn) → done < count
+    → ((records_in : List ℕ → List Record) → ReadsFiles records_in → turn_drawn records_in all (place_drawn connectors old) (word_drawn old).0 ≡ Some turn)
+    → new ≡ (word_drawn old).1 → later ≡ all_after all (place_drawn connectors old) (word_drawn old).0
+    → AreTurnsSoFar old all seed connectors count done turns → AreTurnsSoFar new later seed connectors count (done + 1) (turns ++ turn ∷ [])
+one_turn_drawn old new all later seed connectors count done turns turn less is next counted far records_in reads =
+    let rest : count - done ≡ suc (count - (done + 1)) = omega (arith, less) in
+    let after = all_after all (place_drawn connectors old) (word_drawn old).0 in
+    let tail = turns_drawn records_in (word_drawn old).1 after connectors (count - (done + 1)) in
+    ap (λ l. l ++ turns_drawn records_in new later connectors (count - (done + 1))) (map_push Some turns turn)
+    ∙ append_assoc (map Some turns) (Some turn ∷ []) (turns_drawn records_in new later connectors (count - (done + 1)))
+    ∙ ap (λ l. map Some turns ++ Some turn ∷ l) (ap (λ g. turns_drawn records_in g later connectors (count - (done + 1))) next ∙ ap (λ cs. turns_drawn records_in (word_drawn old).1 cs connectors (count - (done + 1))) counted)
+    ∙ ap (λ e. map Some turns ++ e ∷ tail) (sym (is records_in reads))
+    ∙ ap (λ n. map Some turns ++ turns_drawn records_in old all connectors n) (sym rest)
+    ∙ far records_in reads
+
+pub all_turns_drawn : (generator : Lcg) (all : List (List ℕ)) (seed connectors count done : ℕ) (turns : List Turn) → done ≡ count
+    → AreTurnsSoFar generator all seed connectors count done turns → (records_in : List ℕ → List Record) → ReadsFiles records_in → map Some turns ≡ seed_draws_turns records_in seed connectors count
+all_turns_drawn generator all seed connectors count done turns whole far records_in reads =
+    let none : count - done ≡ 0 = omega (arith, whole) in
+    sym (append-nil (map Some turns)) ∙ ap (λ n. map Some turns ++ turns_drawn records_in generator all connectors n) (sym none) ∙ far records_in reads

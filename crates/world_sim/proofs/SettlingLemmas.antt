@@ -63,7 +63,7 @@ own_event ours (Cuts number length) is = absurd is
 own_event ours Restarts_provider is = absurd is
 own_event ours Restarts_connector is = absurd is
 
-own_events : (ours : Names) (events : List Event) → AllByRecursion IsSendOrDeliver events → AllByRecursion (OfOurs ours) events
+pub own_events : (ours : Names) (events : List Event) → AllByRecursion IsSendOrDeliver events → AllByRecursion (OfOurs ours) events
 own_events ours [] all = tt
 own_events ours (event ∷ events) all = (own_event ours event all.0, own_events ours events all.1)
 

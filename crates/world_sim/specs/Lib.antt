@@ -19,3 +19,5 @@ pub mod Amid
 pub mod Printing
 pub mod PrintingAmong
 pub mod Random
+pub mod Several
+pub mod SeveralPrinting

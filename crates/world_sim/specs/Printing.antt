@@ -90,6 +90,7 @@ SettlesIf g h false old new None = new ≡ old
 pub record ShowsEach {R J : Type 0} (g : Registries R) (h : Journals J) (old new : Running R J)
     (names : List RecordName) (views : List View) : Type 0 where
   pub was : IsSound g h new → IsSound g h old
+  pub base : new.service ≡ old.service
   pub is : IsSound g h new → {ours : Names} (w : World) → IsAmong g h ours old w → IsAmong g h ours new w
   pub shown : IsSound g h new → {ours : Names} (w : World) → IsAmong g h ours old w → views ≡ map (view w) names
 
@@ -97,6 +98,7 @@ pub record ShowsEach {R J : Type 0} (g : Registries R) (h : Journals J) (old new
 pub record ShowsAll {R J : Type 0} (g : Registries R) (h : Journals J) (old new : Running R J) (views : List View)
     : Type 0 where
   pub was : IsSound g h new → IsSound g h old
+  pub base : new.service ≡ old.service
   pub is : IsSound g h new → {ours : Names} (w : World) → IsAmong g h ours old w → IsAmong g h ours new w
   pub shown : IsSound g h new → {ours : Names} (w : World) → IsAmong g h ours old w
       → views ≡ map (view w) (world_names w)

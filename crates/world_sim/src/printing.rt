@@ -127,7 +127,7 @@ pub(crate) fn print_settling<R: Registry + Drop, J: Journal + Drop, W: Write>(
 }
 
 /// Prints how many exchanges a run to convergence took.
-fn print_count<W: Write>(out: &mut W, count: Count) -> io::Result<()>
+pub(crate) fn print_count<W: Write>(out: &mut W, count: Count) -> io::Result<()>
     ensures { OnOk result (Appends (W.contents out.old) (W.contents out.new)
         (settled_lines (Some count))) }
 {

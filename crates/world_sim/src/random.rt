@@ -1,8 +1,7 @@
 //! Random schedules.
 ghost use Rattle.std.specs.Prelude.{◌≡◌, ◌<◌, IfOk, List, OnOk, Some, length, map, slice_index, slice_set, string_bytes, ℕ};
-ghost use Rattle.rand_pcg.specs.Pcg.{pcg32};
 ghost use Rattle.source_csv.specs.Fields.{Record};
-ghost use Rattle.world_sim.specs.Random.{counters_after, event_drawn, fields_at, kind_at, message_drawn, name_at, record_at, risen, seed_draws, trouble_drawn};
+ghost use Rattle.world_sim.specs.Random.{counters_after, event_drawn, kind_at, letter_at, message_drawn, name_at, record_at, risen, seed_draws, status_at, trouble_drawn};
 ghost use Rattle.world_sim.specs.Schedules.{ReadsFiles, change_in};
 ghost use Rattle.scim_filter.specs.Names.{record_named};
 ghost use Rattle.std.specs.Option.{option_map};
@@ -22,54 +21,50 @@ const MESSAGES: u32 = 64;
 /// Lengths of cut messages are drawn below this.
 const LENGTHS: u32 = 50;
 
-/// The source of random events: a generator, and the last revision of each record.
-#[derive(Drop)]
-struct Draws {
-    generator: Lcg64Xsh32,
-    revisions: [u32; 4],
+/// The event that a word draws, of records whose names end in `suffix` and that have these last revisions.
+/// The three lowest bits say what happens; the others say to which record or message.
+#[tactic(auto, unfolding(crate::specs::Random::event_drawn, crate::specs::Random::counters_after))]
+pub(crate) fn event_drawn(
+    alloc: Global,
+    suffix: &str,
+    revisions: &mut [u32; 4],
+    word: u32,
+) -> Result<Event, AllocError>
+    ensures event { (records_in : List ℕ → List Record) → ReadsFiles records_in
+        → IfOk result (λ event. event_drawn records_in suffix.now revisions.old word ≡ Some event) }
+    ensures counters { OnOk result (revisions.new ≡ counters_after revisions.old word) }
+{
+    let (what, rest) = (word % 8, word / 8);
+    let place = (rest % 4) as usize;
+    if what < 2 {
+        change(alloc, suffix, revisions, place)
+    } else if what < 4 {
+        send(alloc, suffix, place)
+    } else if what < 7 {
+        Ok(Event::Deliver(message(rest)))
+    } else {
+        Ok(trouble(rest))
+    }
 }
 
-impl Draws {
-    /// The next event. The three lowest bits of its word say what happens; the others say to which record
-    /// or message.
-    #[tactic(auto, unfolding(crate::specs::Random::event_drawn, crate::specs::Random::counters_after))]
-    fn next(&mut self, alloc: Global) -> Result<Event, AllocError>
-        ensures event { (records_in : List ℕ → List Record) → ReadsFiles records_in
-            → IfOk result (λ event. event_drawn records_in self.old.revisions
-            (pcg32 self.old.generator).0 ≡ Some event) }
-        ensures generator { OnOk result (self.new.generator ≡ (pcg32 self.old.generator).1) }
-        ensures counters { OnOk result (self.new.revisions
-            ≡ counters_after self.old.revisions (pcg32 self.old.generator).0) }
-    {
-        let word = self.generator.next_word();
-        let (what, rest) = (word % 8, word / 8);
-        let place = (rest % 4) as usize;
-        if what < 2 {
-            self.change(alloc, place)
-        } else if what < 4 {
-            send(alloc, place)
-        } else if what < 7 {
-            Ok(Event::Deliver(message(rest)))
-        } else {
-            Ok(trouble(rest))
-        }
-    }
-
-    /// The source offers a record's next revision.
-    fn change(&mut self, alloc: Global, place: usize) -> Result<Event, AllocError>
-        requires { place < 4 }
-        ensures event { (records_in : List ℕ → List Record) → ReadsFiles records_in
-            → IfOk result (λ event. change_in records_in (kind_at place)
-            (record_at place (risen (slice_index self.old.revisions place))) ≡ Some event) }
-        ensures generator { self.new.generator ≡ self.old.generator }
-        ensures counters { self.new.revisions ≡ slice_set self.old.revisions place
-            (risen (slice_index self.old.revisions place)) }
-    {
-        let revision = self.revisions[place].saturating_add(1).min(LAST_REVISION);
-        self.revisions[place] = revision;
-        let text = record_text(alloc, place, revision)?;
-        change_in(alloc, kind_of(place), text.as_str())?.ok_or(AllocError)
-    }
+/// The source offers a record's next revision.
+fn change(
+    alloc: Global,
+    suffix: &str,
+    revisions: &mut [u32; 4],
+    place: usize,
+) -> Result<Event, AllocError>
+    requires { place < 4 }
+    ensures event { (records_in : List ℕ → List Record) → ReadsFiles records_in
+        → IfOk result (λ event. change_in records_in (kind_at place)
+        (record_at suffix.now place (risen (slice_index revisions.old place))) ≡ Some event) }
+    ensures counters { revisions.new ≡ slice_set revisions.old place
+        (risen (slice_index revisions.old place)) }
+{
+    let revision = revisions[place].saturating_add(1).min(LAST_REVISION);
+    revisions[place] = revision;
+    let text = record_text(alloc, suffix, place, revision)?;
+    change_in(alloc, kind_of(place), text.as_str())?.ok_or(AllocError)
 }
 
 /// The type of a record.
@@ -79,9 +74,9 @@ fn kind_of(place: usize) -> Kind
     if place < 3 { Kind::User } else { Kind::Group }
 }
 
-/// The name of a record: three users, and a group.
-fn name_of(place: usize) -> &'static str
-    ensures { result.now ≡ name_at place }
+/// The first letter of a record's name: three users, and a group.
+fn letter_of(place: usize) -> &'static str
+    ensures { result.now ≡ letter_at place }
 {
     match place {
         0 => "a",
@@ -91,38 +86,44 @@ fn name_of(place: usize) -> &'static str
     }
 }
 
-/// What follows the revision: a user has left at each third revision, and the group has two members at each
-/// second one.
-fn fields_of(place: usize, revision: u32) -> &'static str
-    ensures { result.now ≡ fields_at place revision }
+/// What follows the revision of a user, who has left at each third one.
+fn status_of(revision: u32) -> &'static str
+    ensures { result.now ≡ status_at revision }
 {
-    if place < 3 {
-        if revision % 3 == 0 {
-            ",,,,left"
-        } else {
-            ",,,,active"
-        }
-    } else if revision % 2 == 0 {
-        "a b"
+    if revision % 3 == 0 {
+        ",,,,left"
     } else {
-        "a"
+        ",,,,active"
     }
 }
 
-/// A record of a file.
-fn record_text(alloc: Global, place: usize, revision: u32) -> Result<String, AllocError>
-    ensures { IfOk result (λ text. string_bytes text ≡ record_at place revision) }
+/// A record of a file. A group has two members at each second revision.
+fn record_text(
+    alloc: Global,
+    suffix: &str,
+    place: usize,
+    revision: u32,
+) -> Result<String, AllocError>
+    ensures { IfOk result (λ text. string_bytes text ≡ record_at suffix.now place revision) }
 {
-    let (name, fields) = (name_of(place), fields_of(place, revision));
-    format!(in alloc; "{name},{revision},{fields}")
+    let (letter, status) = (letter_of(place), status_of(revision));
+    if place < 3 {
+        format!(in alloc; "{letter}{suffix},{revision},{status}")
+    } else if revision % 2 == 0 {
+        format!(in alloc; "{letter}{suffix},{revision},a{suffix} b{suffix}")
+    } else {
+        format!(in alloc; "{letter}{suffix},{revision},a{suffix}")
+    }
 }
 
 /// The connector sends its next request for a record.
-fn send(alloc: Global, place: usize) -> Result<Event, AllocError>
+fn send(alloc: Global, suffix: &str, place: usize) -> Result<Event, AllocError>
     ensures { IfOk result (λ event. option_map events.Send
-        (record_named (name_at place) (kind_at place)) ≡ Some event) }
+        (record_named (name_at suffix.now place) (kind_at place)) ≡ Some event) }
 {
-    let name = record_named(alloc, kind_of(place), name_of(place))?;
+    let letter = letter_of(place);
+    let name = format!(in alloc; "{letter}{suffix}")?;
+    let name = record_named(alloc, kind_of(place), name.as_str())?;
     name.map(Event::Send).ok_or(AllocError)
 }
 
@@ -154,13 +155,12 @@ pub fn random_schedule(alloc: Global, seed: u64, count: u32) -> Result<Vec<Event
     ensures drawn { (records_in : List ℕ → List Record) → ReadsFiles records_in
         → IfOk result (λ events. map Some events.items ≡ seed_draws records_in seed count) }
 {
-    let mut draws = Draws {
-        generator: Lcg64Xsh32::seed_from_u64(seed),
-        revisions: [0; 4],
-    };
+    let mut generator = Lcg64Xsh32::seed_from_u64(seed);
+    let mut revisions = [0; 4];
     let mut events = Vec::new(alloc);
     for _ in 0..count {
-        events.push(draws.next(alloc)?)?;
+        let word = generator.next_word();
+        events.push(event_drawn(alloc, "", &mut revisions, word)?)?;
     }
     Ok(events)
 }

@@ -208,7 +208,7 @@ fn keeps_limits(row: &Row)
 }
 
 /// The type of a base guarantees its form.
-fn keeps_form(base: &Base)
+pub(crate) fn keeps_form(base: &Base)
     ensures { IsBase base.now }
 {
     let _ = base.as_str();

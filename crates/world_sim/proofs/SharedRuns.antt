@@ -1,0 +1,326 @@
+-- Turns one after the other, from connectors that start, to records that are settled and shown.
+use Rattle.std.proofs.Common.{arith, ◌≡◌, ◌<◌, ◌+◌, ◌-◌, ◌^◌, ◌⊎◌, ℕ, zero, suc, Bool, true, false, is_some, List, [], ◌∷◌, ◌++◌, Option, Some, None, map, min, length, take, refl, ap, sym, subst, inl, inr, ◌∙◌, append-nil, append_assoc, length-append}
+use Rattle.std.proofs.KnownBytes.{Appends-kept, Appends-trans}
+use Rattle.std.proofs.Math.ListN.{get_or}
+use Rattle.std.proofs.Math.Seq.{take-suc}
+use Rattle.std.proofs.lemmas.List.{map_push, map-append}
+use Rattle.std.specs.Io.KnownBytes.{Appends}
+use Rattle.std.specs.List.{AllByRecursion, slice_get}
+use Rattle.provider_core.specs.declared.registry.Registry.{Ghosts as Registries}
+use Rattle.journal_core.specs.declared.journals.Journal.{Ghosts as Journals}
+use Rattle.world_model.specs.Invariant.{Names}
+use Rattle.world_model.specs.Others.{HeadlineAmong}
+use Rattle.world_model.specs.Reports.{Report, report}
+use Rattle.world_model.specs.Safe.{Onward}
+use Rattle.world_model.specs.Several.{Shared, Turn, nobody, world_at, with_world, happens_at, run_several, side_after, NoneShared, EachItsOwn, IsItsOwn}
+use Rattle.world_model.specs.World.{World, Message, names as world_names}
+use Rattle.world_model.proofs.Several.{always_safe_for_each, always_onward_for_each, headline_holds_for_each}
+use Rattle.world_sim.specs.Events.{event_of, report_of}
+use Rattle.world_sim.specs.Messages.{message_size}
+use Rattle.world_sim.specs.Printing.{ShowsAll, settled_lines, view_lines}
+use Rattle.world_sim.specs.Running.{IsAmong, IsSound, Starts, journal_in}
+use Rattle.world_sim.specs.Several.{Adds, AreAmong, AreOpen, AreSettling, AreSound, GoesOnSharing, HappensAt, IsBelow, IsDoneAt, IsNew, IsRunSeveral, IsSeatAt, RunsSeveral, RunsSeveralFromEmpty, SettlesAt, SettlesEach, StartsSeveral, seat_of, seated, seats_of, turn_of, turn_report_of, turn_reports, turns_of}
+use Rattle.world_sim.specs.SeveralPrinting.{PrintsSeveral, ReachesEach, SettlesEachIf, ShowsAt, ShowsEach, turn_line, turn_lines, views_lines, views_of}
+use Rattle.world_sim.specs.Views.{view}
+use Rattle.world_sim.specs.declared.several.Seat.{Seat}
+use Rattle.world_sim.specs.declared.several.SharedWorld.{SharedWorld}
+use Rattle.world_sim.specs.declared.several.Turn.{Turn as TurnOf}
+use Rattle.world_sim.specs.declared.several.TurnReport.{TurnReport}
+use Rattle.world_sim.specs.declared.several_printing.PrintedSeveral.{PrintedSeveral}
+use Rattle.world_sim.specs.declared.settling.Count.{Count}
+use Rattle.world_sim.specs.declared.views.View.{View}
+use Rattle.world_sim.specs.declared.worlds.World.{World as Running}
+use Rattle.world_sim.proofs.SharingLemmas.{at_first, now_sound, sound_before, stayed}
+use Rattle.world_sim.proofs.WholeRuns.{all_back, all_front}
+
+-- ---- one element more
+
+kept_at : {X : Type 0} (xs : List X) (x y : X) (i : ℕ) → slice_get xs i ≡ Some y → slice_get (xs ++ x ∷ []) i ≡ Some y
+kept_at [] x y i at = absurd (cc at)
+kept_at (z ∷ xs) x y zero at = at
+kept_at (z ∷ xs) x y (suc i) at = kept_at xs x y i at
+
+last_at : {X : Type 0} (xs : List X) (x : X) → slice_get (xs ++ x ∷ []) (length xs) ≡ Some x
+last_at [] x = refl
+last_at (z ∷ xs) x = last_at xs x
+
+pushed_at : {X : Type 0} (xs : List X) (x y : X) (i : ℕ) → slice_get (xs ++ x ∷ []) i ≡ Some y → (slice_get xs i ≡ Some y) ⊎ (x ≡ y)
+pushed_at [] x y zero at = inr (cc at)
+pushed_at [] x y (suc i) at = absurd (cc at)
+pushed_at (z ∷ xs) x y zero at = inl at
+pushed_at (z ∷ xs) x y (suc i) at = pushed_at xs x y i at
+
+pub all_at : {X : Type 0} (P : X → Type 0) (xs : List X) (i : ℕ) (x : X) → i < length xs → x ≡ get_or xs i x → AllByRecursion P xs → P x
+all_at P [] i x less at all = absurd (omega (arith, less))
+all_at P (y ∷ xs) zero x less at all = subst P (sym at) all.0
+all_at P (y ∷ xs) (suc i) x less at all = all_at P xs i x (omega (arith, less)) at all.1
+
+pub take_next : {X : Type 0} (xs : List X) (i : ℕ) (x : X) → i < length xs → x ≡ get_or xs i x → take (i + 1) xs ≡ take i xs ++ x ∷ []
+take_next xs i x less at =
+    let next : i + 1 ≡ suc i = omega arith in
+    ap (λ n. take n xs) next ∙ take-suc xs i x less ∙ ap (λ a. take i xs ++ a ∷ []) (sym at)
+
+-- ---- the model's turns
+
+run-more : (s : Shared) (early : List TurnOf) (turn : TurnOf) → run_several s (turns_of (early ++ turn ∷ [])) ≡ happens_at (run_several s (turns_of early)) (turn_of turn)
+run-more s [] turn = refl
+run-more s (t ∷ early) turn = run-more (happens_at s (turn_of t)) early turn
+
+reports-more : (size : Message → ℕ) (s : Shared) (early : List TurnOf) (turn : TurnOf)
+    → turn_reports size s (early ++ turn ∷ []) ≡ turn_reports size s early ++ (turn.place + 1, report size (world_at (run_several s (turns_of early)) turn.place) (event_of turn.event)) ∷ []
+reports-more size s [] turn = refl
+reports-more size s (t ∷ early) turn = ap (λ rs. (t.place + 1, report size (world_at s t.place) (event_of t.event)) ∷ rs) (reports-more size (happens_at s (turn_of t)) early turn)
+
+own_early : (ours : ℕ → Names) (early : List TurnOf) (turn : TurnOf) → EachItsOwn ours (turns_of (early ++ turn ∷ [])) → EachItsOwn ours (turns_of early)
+own_early ours early turn own = all_front (IsItsOwn ours) (turns_of early) (turn_of turn ∷ []) (subst (EachItsOwn ours) (map_push turn_of early turn) own)
+
+own_last : (ours : ℕ → Names) (early : List TurnOf) (turn : TurnOf) → EachItsOwn ours (turns_of (early ++ turn ∷ [])) → IsItsOwn ours (turn_of turn)
+own_last ours early turn own = (all_back (IsItsOwn ours) (turns_of early) (turn_of turn ∷ []) (subst (EachItsOwn ours) (map_push turn_of early turn) own)).0
+
+-- ---- lines
+
+pub turn_lines-push : (number : ℕ) (said : List TurnReport) (last : TurnReport) → turn_lines number (said ++ last ∷ []) ≡ turn_lines number said ++ turn_line (number + length said) last
+turn_lines-push number [] last = let same : number + 0 ≡ number = omega arith in append-nil (turn_line number last) ∙ ap (λ n. turn_line n last) (sym same)
+turn_lines-push number (first ∷ said) last =
+    let same : number + 1 + length said ≡ number + suc (length said) = omega arith in
+    ap (λ l. turn_line number first ++ l) (turn_lines-push (number + 1) said last ∙ ap (λ n. turn_lines (number + 1) said ++ turn_line n last) same)
+    ∙ sym (append_assoc (turn_line number first) (turn_lines (number + 1) said) (turn_line (number + suc (length said)) last))
+
+pub views_lines-push : (all : List (List View)) (views : List View) → views_lines (all ++ views ∷ []) ≡ views_lines all ++ view_lines views
+views_lines-push [] views = append-nil (view_lines views)
+views_lines-push (first ∷ all) views = ap (λ l. view_lines first ++ l) (views_lines-push all views) ∙ sym (append_assoc (view_lines first) (views_lines all) (view_lines views))
+
+module _ {R J : Type 0} (g : Registries R) (h : Journals J) where
+  -- ---- the start
+
+  pub starts_one : (r : SharedWorld R J) (registry : R) (journal : J) (base : List ℕ) → r.others.items ≡ [] → r.first.service ≡ base → Starts g h registry journal r.first
+      → StartsSeveral g h registry (journal ∷ []) base r
+  starts_one r registry journal base none at starts = record {
+    base_is = at;
+    stays_open = starts.stays_open;
+    journals_open = λ sound place seat there. subst (λ (s : Seat J). h.is_faithful (journal_in s.connector)) (alone place seat there) (starts.journal_open (here sound));
+    count = ap (λ l. suc (length l)) none;
+    is = λ sound faithful rows new ours none_shared. record {
+      none_shared = none_shared;
+      each = λ place seat there. subst (λ s. IsAmong g h (ours place) (seated r.first s) (world_at nobody place)) (alone place seat there) (starts.is (here sound) faithful rows new.0 (ours place));
+    };
+  }
+    where
+      alone : (place : ℕ) (seat : Seat J) → IsSeatAt r place seat → seat_of r.first ≡ seat
+      alone zero seat there = cc there
+      alone (suc k) seat there = let e : slice_get [] k ≡ Some seat = subst (λ l. slice_get l k ≡ Some seat) none there in absurd (cc e)
+
+      here : AreSound g h r → IsSound g h r.first
+      here sound = sound 0 (seat_of r.first) refl
+
+  pub added_one : (old new : SharedWorld R J) (seat : Seat J) (journal : J) → new.first ≡ old.first → new.others.items ≡ old.others.items ++ seat ∷ [] → Starts g h old.first.provider journal (seated old.first seat)
+      → Adds g h old new journal
+  added_one old new seat journal first added starts = record { seat = seat; first = first; added = added; starts = starts }
+
+  pub starts_more : (old new : SharedWorld R J) (registry : R) (journals : List J) (journal : J) (base : List ℕ) → StartsSeveral g h registry journals base old → Adds g h old new journal
+      → StartsSeveral g h registry (journals ++ journal ∷ []) base new
+  starts_more old new registry journals journal base starts adds = record {
+    base_is = ap (λ (f : Running R J). f.service) adds.first ∙ starts.base_is;
+    stays_open = λ faithful. subst (λ (f : Running R J). g.is_faithful f.provider) (sym adds.first) (starts.stays_open faithful);
+    journals_open = λ sound place seat there. elim (pushed_at (seats_of old) adds.seat seat place (before place seat there)) [
+      | inl at ↦ starts.journals_open (sound_was sound) place seat at
+      | inr same ↦ subst (λ (s : Seat J). h.is_faithful (journal_in s.connector)) same (adds.starts.journal_open (sound_last sound))
+    ];
+    count = ap length seats ∙ length-append (seats_of old) (adds.seat ∷ []) ∙ ap (λ n. n + 1) starts.count ∙ sym (length-append journals (journal ∷ []));
+    is = λ sound faithful rows empty ours none_shared. record { none_shared = none_shared; each = each sound faithful rows empty ours none_shared };
+  }
+    where
+      seats : seats_of new ≡ seats_of old ++ adds.seat ∷ []
+      seats = ap (λ f. seat_of f ∷ new.others.items) adds.first ∙ ap (λ l. seat_of old.first ∷ l) adds.added
+
+      before : (place : ℕ) (seat : Seat J) → IsSeatAt new place seat → slice_get (seats_of old ++ adds.seat ∷ []) place ≡ Some seat
+      before place seat there = subst (λ l. slice_get l place ≡ Some seat) seats there
+
+      after : (place : ℕ) (seat : Seat J) → slice_get (seats_of old ++ adds.seat ∷ []) place ≡ Some seat → IsSeatAt new place seat
+      after place seat there = subst (λ l. slice_get l place ≡ Some seat) (sym seats) there
+
+      sound_was : AreSound g h new → AreSound g h old
+      sound_was sound place seat at = subst (λ f. IsSound g h (seated f seat)) adds.first (sound place seat (after place seat (kept_at (seats_of old) adds.seat seat place at)))
+
+      sound_last : AreSound g h new → IsSound g h (seated old.first adds.seat)
+      sound_last sound = subst (λ f. IsSound g h (seated f adds.seat)) adds.first (sound (length (seats_of old)) adds.seat (after (length (seats_of old)) adds.seat (last_at (seats_of old) adds.seat)))
+
+      among : AreSound g h new → g.is_faithful registry → g.rows registry ≡ [] → AllByRecursion (IsNew h) (journals ++ journal ∷ []) → (ours : ℕ → Names) → NoneShared ours → AreAmong g h ours old nobody
+      among sound faithful rows empty ours none_shared = starts.is (sound_was sound) faithful rows (all_front (IsNew h) journals (journal ∷ []) empty) ours none_shared
+
+      last : AreSound g h new → g.is_faithful registry → AllByRecursion (IsNew h) (journals ++ journal ∷ []) → {ours : ℕ → Names} → AreAmong g h ours old nobody
+          → (place : ℕ) → IsAmong g h (ours place) (seated old.first adds.seat) (world_at nobody place)
+      last sound faithful empty {ours} before place =
+          let opened = starts.stays_open faithful in
+          adds.starts.is (sound_last sound) opened ((before.each 0 (seat_of old.first) refl).mirrors.rows opened) (all_back (IsNew h) journals (journal ∷ []) empty).0 (ours place)
+
+      each : AreSound g h new → g.is_faithful registry → g.rows registry ≡ [] → AllByRecursion (IsNew h) (journals ++ journal ∷ []) → (ours : ℕ → Names) → NoneShared ours
+          → (place : ℕ) (seat : Seat J) → IsSeatAt new place seat → IsAmong g h (ours place) (seated new.first seat) (world_at nobody place)
+      each sound faithful rows empty ours none_shared place seat there =
+          let were = among sound faithful rows empty ours none_shared in
+          subst (λ f. IsAmong g h (ours place) (seated f seat) (world_at nobody place)) (sym adds.first) (elim (pushed_at (seats_of old) adds.seat seat place (before place seat there)) [
+            | inl at ↦ were.each place seat at
+            | inr same ↦ subst (λ s. IsAmong g h (ours place) (seated old.first s) (world_at nobody place)) same (last sound faithful empty were place)
+          ])
+
+  -- ---- turns
+
+  goes_on : (r : SharedWorld R J) → GoesOnSharing g h r r
+  goes_on r = record { was = λ sound. sound; base = refl; stays_open = λ sound faithful. faithful; journals_open = λ sound opened. opened }
+
+  goes_further : (old mid new : SharedWorld R J) → GoesOnSharing g h old mid → GoesOnSharing g h mid new → GoesOnSharing g h old new
+  goes_further old mid new one two = record {
+    was = λ sound. one.was (two.was sound);
+    base = two.base ∙ one.base;
+    stays_open = λ sound faithful. two.stays_open sound (one.stays_open (two.was sound) faithful);
+    journals_open = λ sound opened. two.journals_open sound (one.journals_open (two.was sound) opened);
+  }
+
+  pub several_none : (r : SharedWorld R J) → RunsSeveral g h r r [] []
+  several_none r = record { on = goes_on r; count = refl; numbers = refl; is = λ sound s among own. among; told_so = λ sound s among own. refl }
+
+  several_on : (old mid new : SharedWorld R J) (early : List TurnOf) (turn : TurnOf) (said : List TurnReport) (last : TurnReport)
+      → RunsSeveral g h old mid early said → HappensAt g h mid new turn.place (event_of turn.event) last → RunsSeveral g h old new (early ++ turn ∷ []) (said ++ last ∷ [])
+  several_on old mid new early turn said last ran one = record {
+    on = goes_further old mid new ran.on one.on;
+    count = one.done.count ∙ ran.count;
+    numbers = map_push (λ (t : TurnReport). t.connector) said last ∙ ap (λ l. l ++ last.connector ∷ []) ran.numbers ∙ ap (λ n. map (λ (t : TurnOf). t.place + 1) early ++ n ∷ []) one.number
+        ∙ sym (map_push (λ (t : TurnOf). t.place + 1) early turn);
+    is = λ sound {ours} s among own.
+        subst (λ t. AreAmong g h ours new t) (sym (run-more s early turn))
+        (one.is sound (run_several s (turns_of early)) (ran.is (one.on.was sound) s among (own_early ours early turn own)) (own_last ours early turn own));
+    told_so = λ sound {ours} s among own.
+        let there = ran.is (one.on.was sound) s among (own_early ours early turn own) in
+        let says = one.says sound (run_several s (turns_of early)) there ∙ ap (λ b. report (message_size b) (world_at (run_several s (turns_of early)) turn.place) (event_of turn.event)) ran.on.base in
+        map_push turn_report_of said last
+        ∙ ap (λ rs. rs ++ turn_report_of last ∷ []) (ran.told_so (one.on.was sound) s among (own_early ours early turn own))
+        ∙ ap (λ n. turn_reports (message_size old.first.service) s early ++ (n, report_of last.report) ∷ []) one.number
+        ∙ ap (λ r. turn_reports (message_size old.first.service) s early ++ (turn.place + 1, r) ∷ []) says
+        ∙ sym (reports-more (message_size old.first.service) s early turn);
+  }
+
+  -- one turn more, whose report is kept
+  pub several_more : (old mid new : SharedWorld R J) (turns : List TurnOf) (i : ℕ) (turn : TurnOf) (said after : List TurnReport) (last : TurnReport) → i < length turns → turn ≡ get_or turns i turn
+      → RunsSeveral g h old mid (take i turns) said → HappensAt g h mid new turn.place (event_of turn.event) last → after ≡ said ++ last ∷ [] → RunsSeveral g h old new (take (i + 1) turns) after
+  several_more old mid new turns i turn said after last less at ran one added =
+      subst (λ l. RunsSeveral g h old new l after) (sym (take_next turns i turn less at))
+      (subst (RunsSeveral g h old new (take i turns ++ turn ∷ [])) (sym added) (several_on old mid new (take i turns) turn said last ran one))
+
+  -- ---- whole runs
+
+  pub ran_several : (first ran : SharedWorld R J) (registry : R) (journals : List J) (base : List ℕ) (turns : List TurnOf) (said : List TurnReport)
+      → StartsSeveral g h registry journals base first → RunsSeveral g h first ran turns said → RunsSeveralFromEmpty g h registry journals base turns ran said
+  ran_several first ran registry journals base turns said starts runs faithful rows empty sound ours none_shared own = record {
+    base = runs.on.base ∙ starts.base_is;
+    opened = runs.on.stays_open sound (starts.stays_open faithful);
+    journals_open = runs.on.journals_open sound (starts.journals_open (runs.on.was sound));
+    is = runs.is sound nobody start own;
+    told_so = runs.told_so sound nobody start own ∙ ap (λ b. turn_reports (message_size b) nobody turns) starts.base_is;
+    safe = λ early late split place. always_safe_for_each ours (turns_of early) none_shared (front early late split) place;
+    onward = λ early middle late split place. subst (λ l. Onward (side_after (turns_of early) place) (side_after l place)) (sym (map-append turn_of early middle))
+        (always_onward_for_each (turns_of early) (turns_of middle) place);
+    headline = λ early middle late split place. subst (λ l. HeadlineAmong (ours place) (side_after (turns_of early) place) (side_after l place)) (sym (map-append turn_of early middle))
+        (headline_holds_for_each ours (turns_of early) (turns_of middle) none_shared (subst (EachItsOwn ours) (map-append turn_of early middle) (front (early ++ middle) late split)) place);
+  }
+    where
+      start : AreAmong g h ours first nobody
+      start = starts.is (runs.on.was sound) faithful rows empty ours none_shared
+
+      front : (early late : List TurnOf) → early ++ late ≡ turns → EachItsOwn ours (turns_of early)
+      front early late split = all_front (IsItsOwn ours) (turns_of early) (turns_of late) (subst (EachItsOwn ours) (map-append turn_of early late) (subst (λ l. EachItsOwn ours (turns_of l)) (sym split) own))
+
+  -- ---- runs to convergence
+
+  pub none_settled_each : (r : SharedWorld R J) → SettlesEach g h r r 0 0
+  none_settled_each r = record { on = goes_on r; count = refl; is = λ sound s among. (s, (refl, refl), among) }
+
+  pub one_settled_each : (old mid new : SharedWorld R J) (place before sum : ℕ) (count : Count) → sum ≡ min (before + count.exchanges) (2 ^ 32 - 1)
+      → SettlesEach g h old mid place before → SettlesAt g h mid new place count → SettlesEach g h old new (place + 1) sum
+  one_settled_each old mid new place before sum count added far one =
+      let next : place + 1 ≡ suc place = omega arith in
+      subst (λ n. SettlesEach g h old new n sum) (sym next) (record {
+        on = goes_further old mid new far.on one.on;
+        count = one.done.count ∙ far.count;
+        is = λ sound s among.
+            let (u, reached, there) = far.is (one.on.was sound) s among in
+            let (v, settling, here) = one.is sound u there in
+            (with_world u place v, (u, v, before, count.exchanges, reached, settling, refl, added), here);
+      })
+
+  -- ---- views
+
+  pub none_shown_each : (r : SharedWorld R J) → ShowsEach g h r r 0 []
+  none_shown_each r = record { was = λ sound. sound; count = refl; is = λ sound s among. among; shown = λ sound s among. refl }
+
+  pub one_shown_each : (old mid new : SharedWorld R J) (place : ℕ) (all : List (List View)) (views : List View)
+      → ShowsEach g h old mid place all → ShowsAt g h mid new place views → ShowsEach g h old new (place + 1) (all ++ views ∷ [])
+  one_shown_each old mid new place all views far one =
+      let next : place + 1 ≡ suc place = omega arith in
+      subst (λ n. ShowsEach g h old new n (all ++ views ∷ [])) (sym next) (record {
+        was = λ sound. far.was (was sound);
+        count = one.count ∙ far.count;
+        is = λ sound s among.
+            let there = far.is (was sound) s among in
+            stayed g h mid new place _ one s there one.does.base (one.does.is (now_sound g h mid new place _ one sound) (world_at s place) (at_first g h mid new place _ one s there));
+        shown = λ sound s among.
+            let there = far.is (was sound) s among in
+            ap (λ l. l ++ views ∷ []) (far.shown (was sound) s among)
+            ∙ ap (λ vs. views_of s place ++ vs ∷ []) (one.does.shown (now_sound g h mid new place _ one sound) (world_at s place) (at_first g h mid new place _ one s there));
+      })
+    where
+      was : AreSound g h new → AreSound g h mid
+      was sound = sound_before g h mid new place _ one one.does.was sound
+
+  -- ---- the whole run, printed
+
+  each_counted : (asked : Bool) (old new : SharedWorld R J) (count : Option Count) → SettlesEachIf g h asked old new count → is_some count ≡ asked
+  each_counted true old new (Some count) settles = refl
+  each_counted true old new None settles = absurd settles
+  each_counted false old new (Some count) settles = absurd settles
+  each_counted false old new None settles = refl
+
+  each_was : (asked : Bool) (old new : SharedWorld R J) (count : Option Count) → SettlesEachIf g h asked old new count → AreSound g h new → AreSound g h old
+  each_was true old new (Some count) settles sound = settles.on.was sound
+  each_was true old new None settles sound = absurd settles
+  each_was false old new (Some count) settles sound = absurd settles
+  each_was false old new None settles sound = subst (AreSound g h) settles sound
+
+  each_many : (asked : Bool) (old new : SharedWorld R J) (count : Option Count) → SettlesEachIf g h asked old new count → length (seats_of new) ≡ length (seats_of old)
+  each_many true old new (Some count) settles = settles.count
+  each_many true old new None settles = absurd settles
+  each_many false old new (Some count) settles = absurd settles
+  each_many false old new None settles = ap (λ r. length (seats_of r)) settles
+
+  each_reaches : (asked : Bool) (old new : SharedWorld R J) (count : Option Count) → SettlesEachIf g h asked old new count → AreSound g h new → {ours : ℕ → Names} (s : Shared) → AreAmong g h ours old s
+      → (t : Shared) × ReachesEach s (length (seats_of old)) count t × AreAmong g h ours new t
+  each_reaches true old new (Some count) settles sound s among = settles.is sound s among
+  each_reaches true old new None settles sound s among = absurd settles
+  each_reaches false old new (Some count) settles sound s among = absurd settles
+  each_reaches false old new None settles sound {ours} s among = (s, refl, subst (λ r. AreAmong g h ours r s) (sym settles) among)
+
+  pub all_printed_several : (first ran settled : SharedWorld R J) (registry : R) (journals : List J) (base : List ℕ) (turns : List TurnOf) (asked : Bool) (count : Option Count)
+      (before : Option (List ℕ)) (after : Option (List ℕ)) (printed : PrintedSeveral R J)
+      → StartsSeveral g h registry journals base first → RunsSeveral g h first ran turns printed.reports.items → SettlesEachIf g h asked ran settled count
+      → ShowsEach g h settled printed.world (length (seats_of settled)) (map (λ views. views.items) printed.views.items)
+      → Appends before after (turn_lines 1 printed.reports.items ++ (settled_lines count ++ views_lines (map (λ views. views.items) printed.views.items)))
+      → PrintsSeveral g h registry journals base turns asked before after printed
+  all_printed_several first ran settled registry journals base turns asked count before after printed starts runs settles shows lines = record {
+    numbers = runs.numbers;
+    count = count;
+    counted = each_counted asked ran settled count settles;
+    lines = lines;
+    so = λ faithful rows empty sound ours none_shared own.
+        let at_end = shows.was sound in
+        let is_run = ran_several first ran registry journals base turns printed.reports.items starts runs faithful rows empty (each_was asked ran settled count settles at_end) ours none_shared own in
+        let (t, reached, there) = each_reaches asked ran settled count settles at_end (run_several nobody (turns_of turns)) is_run.is in
+        record {
+          ran = ran;
+          run = is_run;
+          last = t;
+          reaches = subst (λ n. ReachesEach (run_several nobody (turns_of turns)) n count t) many reached;
+          shown = shows.shown sound t there ∙ ap (views_of t) (each_many asked ran settled count settles ∙ many);
+        };
+  }
+    where
+      many : length (seats_of ran) ≡ length journals
+      many = runs.count ∙ starts.count

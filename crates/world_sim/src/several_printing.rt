@@ -1,0 +1,184 @@
+//! Runs of several connectors whose reports and records are printed.
+ghost use Rattle.std.specs.Prelude.{◌≡◌, ◌<◌, ◌++◌, ◌∷◌, ◌+◌, [], IfOk, OnOk, length, map};
+ghost use Rattle.std.specs.Io.KnownBytes.{Appends};
+ghost use Rattle.std.specs.List.{AllByRecursion};
+ghost use Rattle.world_sim.specs.Events.{event_of};
+ghost use Rattle.world_sim.specs.Printing.{settled_lines, view_lines};
+ghost use Rattle.world_sim.specs.Several.{HappensAt, IsBelow, RunsSeveral, seats_of};
+ghost use Rattle.world_sim.specs.SeveralPrinting.{PrintsSeveral, SettlesEachIf, ShowsAt, ShowsEach, turn_line, turn_lines, views_lines};
+
+use crate::following::TellingFault;
+use crate::printing::{flush, print_count, print_views};
+use crate::reports::WorldFault;
+use crate::settling::Count;
+use crate::several::{SharedWorld, Turn, TurnReport};
+use crate::views::View;
+use journal_core::{Journal, ReopenJournal};
+use provider_core::{Registry, Reopen};
+use scim_key::Base;
+use std::alloc::Global;
+use std::io;
+use std::io::Write;
+
+/// What several connectors came to, after a run whose lines were printed.
+#[derive(Drop)]
+pub struct PrintedSeveral<R: Registry, J: Journal> {
+    pub world: SharedWorld<R, J>,
+    /// The report of each turn.
+    pub reports: Vec<TurnReport>,
+    /// The views of the records of each connector.
+    pub views: Vec<Vec<View>>,
+}
+
+/// Prints the line of the turn with this number.
+fn print_said<W: Write>(out: &mut W, number: usize, said: &TurnReport) -> io::Result<()>
+    ensures { OnOk result (Appends (W.contents out.old) (W.contents out.new)
+        (turn_line number said.now)) }
+{
+    writeln!(out, "{number} {said}")
+}
+
+/// Makes a turn, and prints its line.
+fn print_turn<R: Reopen + Drop, J: ReopenJournal + Drop, W: Write>(
+    world: &mut SharedWorld<R, J>,
+    turn: &Turn,
+    number: usize,
+    out: &mut W,
+) -> Result<TurnReport, TellingFault<io::Error>>
+    requires { turn.now.place < length (seats_of world.old) }
+    ensures done { IfOk result (HappensAt R.Registry J.Journal world.old world.new turn.now.place
+        (event_of turn.now.event)) }
+    ensures line { IfOk result (λ said. Appends (W.contents out.old) (W.contents out.new)
+        (turn_line number said)) }
+{
+    let said = world.step(turn.place, &turn.event)?;
+    print_said(out, number, &said)?;
+    Ok(said)
+}
+
+/// Adds a report at the end.
+fn keep(reports: &mut Vec<TurnReport>, said: TurnReport) -> Result<(), WorldFault>
+    ensures { OnOk result (reports.new.items ≡ reports.old.items ++ said ∷ []) }
+{
+    reports.push(said)?;
+    Ok(())
+}
+
+/// Makes turns, one after the other, and prints the line of each as it comes.
+fn print_turns<R: Reopen + Drop, J: ReopenJournal + Drop, W: Write>(
+    alloc: Global,
+    world: &mut SharedWorld<R, J>,
+    turns: &[Turn],
+    out: &mut W,
+) -> Result<Vec<TurnReport>, TellingFault<io::Error>>
+    requires { AllByRecursion (IsBelow (length (seats_of world.old))) turns.now }
+    ensures runs { IfOk result (λ said. RunsSeveral R.Registry J.Journal world.old world.new
+        turns.now said.items) }
+    ensures lines { IfOk result (λ said. Appends (W.contents out.old) (W.contents out.new)
+        (turn_lines 1 said.items)) }
+{
+    let mut said = Vec::new(alloc);
+    for turn in turns {
+        let report = print_turn(world, turn, said.len() + 1, out)?;
+        keep(&mut said, report)?;
+    }
+    Ok(said)
+}
+
+/// Settles the records of each connector if that is asked for, and prints how many exchanges that took.
+fn print_settling<R: Registry + Drop, J: Journal + Drop, W: Write>(
+    world: &mut SharedWorld<R, J>,
+    settles: bool,
+    out: &mut W,
+) -> Result<Option<Count>, TellingFault<io::Error>>
+    ensures settles { IfOk result
+        (SettlesEachIf R.Registry J.Journal settles world.old world.new) }
+    ensures line { IfOk result (λ count. Appends (W.contents out.old) (W.contents out.new)
+        (settled_lines count)) }
+{
+    if !settles {
+        return Ok(None);
+    }
+    let count = world.settle()?;
+    print_count(out, count)?;
+    Ok(Some(count))
+}
+
+impl<R: Registry + Drop, J: Journal + Drop> SharedWorld<R, J> {
+    /// Prints a line for each record of the connector at this place.
+    fn print_views_at<W: Write>(
+        &mut self,
+        alloc: Global,
+        place: usize,
+        out: &mut W,
+    ) -> Result<Vec<View>, TellingFault<io::Error>>
+        requires { place < length (seats_of self.old) }
+        ensures shows { IfOk result (λ views. ShowsAt R.Registry J.Journal self.old self.new place
+            views.items) }
+        ensures lines { IfOk result (λ views. Appends (W.contents out.old) (W.contents out.new)
+            (view_lines views.items)) }
+    {
+        self.sit(place);
+        let result = print_views(alloc, &mut self.first, out);
+        self.sit(place);
+        result
+    }
+}
+
+/// Adds the views of a connector's records at the end.
+fn keep_views(all: &mut Vec<Vec<View>>, views: Vec<View>) -> Result<(), WorldFault>
+    ensures { OnOk result (all.new.items ≡ all.old.items ++ views ∷ []) }
+{
+    all.push(views)?;
+    Ok(())
+}
+
+/// Prints a line for each record of each connector: connectors by number, and of each users by key, then groups
+/// by key.
+fn print_all_views<R: Registry + Drop, J: Journal + Drop, W: Write>(
+    alloc: Global,
+    world: &mut SharedWorld<R, J>,
+    out: &mut W,
+) -> Result<Vec<Vec<View>>, TellingFault<io::Error>>
+    ensures shows { IfOk result (λ all. ShowsEach R.Registry J.Journal world.old world.new
+        (length (seats_of world.old)) (map (λ views. views.items) all.items)) }
+    ensures lines { IfOk result (λ all. Appends (W.contents out.old) (W.contents out.new)
+        (views_lines (map (λ views. views.items) all.items))) }
+{
+    let mut all = Vec::new(alloc);
+    for place in 0..world.count() {
+        let views = world.print_views_at(alloc, place, out)?;
+        keep_views(&mut all, views)?;
+    }
+    Ok(all)
+}
+
+/// Makes turns of several connectors over a registry without rows and journals without entries, and prints a line
+/// for each as it comes. Then it settles the records of each connector if that is asked for, and prints how many
+/// exchanges that took in all, and a line for each record of each connector. For each of them the promise holds,
+/// if no two have a record in common.
+pub fn print_several<R: Reopen + Drop, J: ReopenJournal + Drop, W: Write>(
+    alloc: Global,
+    registry: R,
+    first: J,
+    others: Vec<J>,
+    base: Base,
+    turns: &[Turn],
+    settles: bool,
+    out: &mut W,
+) -> Result<PrintedSeveral<R, J>, TellingFault<io::Error>>
+    requires { AllByRecursion (IsBelow (length others.items + 1)) turns.now }
+    ensures prints { IfOk result (PrintsSeveral R.Registry J.Journal registry (first ∷ others.items)
+        base turns.now settles (W.contents out.old) (W.contents out.new)) }
+{
+    let mut world = SharedWorld::start(alloc, registry, first, others, base)?;
+    let reports = print_turns(alloc, &mut world, turns, out)?;
+    print_settling(&mut world, settles, out)?;
+    let views = print_all_views(alloc, &mut world, out)?;
+    flush(out)?;
+    Ok(PrintedSeveral {
+        world,
+        reports,
+        views,
+    })
+}
