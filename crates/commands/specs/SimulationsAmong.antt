@@ -33,7 +33,8 @@ among_in (Ok acts) = Ok (schedules.Among acts)
 among_in (Err fault) = Err fault
 
 -- the same by its events, if each line is one
-abbrev pub alone_or : Result (List Event) ScheduleFault → Result (List Act) ScheduleFault → Result Schedule ScheduleFault
+abbrev pub alone_or : Result (List Event) ScheduleFault → Result (List Act) ScheduleFault
+    → Result Schedule ScheduleFault
 alone_or (Ok events) acts = Ok (schedules.Alone events)
 alone_or (Err fault) acts = among_in acts
 

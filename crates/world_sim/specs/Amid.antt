@@ -133,7 +133,8 @@ FailsToDo g h old new (deeds.Ours event) fault = FailsOurs g h old new (event_of
 FailsToDo g h old new (deeds.Asks request) fault = FailsTheirs g h old new (λ w. acts w (Theirs request)) fault
 FailsToDo g h old new (deeds.Writes content) fault =
     FailsTheirs g h old new (λ w. acts w (Theirs (write_of (g.rows old.provider) content))) fault
-FailsToDo g h old new (deeds.WritesRow row) fault = FailsTheirs g h old new (λ w. after_act w (deeds.WritesRow row)) fault
+FailsToDo g h old new (deeds.WritesRow row) fault =
+    FailsTheirs g h old new (λ w. after_act w (deeds.WritesRow row)) fault
 
 -- ---- runs
 
