@@ -265,7 +265,7 @@ module _ {R J : Type 0} (g : Registries R) (h : Journals J) where
           run w events,
           done.does.among here w first,
           moved g h old new place _ done s among done.does.done.runs.base (run w events) (done_is g h done.does.done here w first)
-          (λ other apart there. reached_run (ours place) (ours other) (names_apart g h old new place _ done s among other apart) (s.sides other) w events (own_events (ours place) events done.does.done.only)
-          (reached_inv (ours place) w first.reached) there),
+              (λ other apart there. reached_run (ours place) (ours other) (names_apart g h old new place _ done s among other apart) (s.sides other) w events (own_events (ours place) events done.does.done.only)
+              (reached_inv (ours place) w first.reached) there),
         );
   }

@@ -19,5 +19,5 @@ loop-turn-preserved g c =
     c.loop-turn.invariant.1 c.in_ok-report.ensures.line in (
       runs,
       subst (Appends (g.W.Write.contents c.args.out.now) (g.W.Write.contents c.print_turn.new.out))
-      (ap (λ n. turn_lines 1 said ++ turn_line n last) number ∙ sym (turn_lines-push 1 said last) ∙ ap (turn_lines 1) (sym pushed)) lines,
+          (ap (λ n. turn_lines 1 said ++ turn_line n last) number ∙ sym (turn_lines-push 1 said last) ∙ ap (turn_lines 1) (sym pushed)) lines,
     )
