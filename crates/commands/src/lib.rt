@@ -22,7 +22,7 @@ mod status;
 pub mod words;
 
 pub use answering::{answer, answer_one, answer_stored};
-pub use endings::{outcome_status, pushed_status, run_status, shown_status, simulated_status};
+pub use endings::{outcome_status, pushed_status, run_status, several_status, shown_status, simulated_status};
 pub use images::{map, print_images};
 pub use jobs::Job;
 pub use looping::carry;
@@ -32,7 +32,7 @@ pub use pushing::{push, push_over};
 pub use resetting::reset;
 pub use serving::serve;
 pub use showing::show;
-pub use simulation::simulate;
+pub use simulation::{simulate, simulate_several};
 pub use status::{
     Cause, CommandFault, Part, Reason, Status, listen_fault, told, unread_fault, words_fault,
 };

@@ -19,5 +19,5 @@ loop-place-preserved g c =
     c.loop-place.invariant.1 c.in_ok-views.ensures.lines in (
       subst (ShowsEach g.R.Registry g.J.Journal c.args.world.now c.print_views_at.new.self (c.loop-place.place + 1)) (sym mapped) shows,
       subst (Appends (g.W.Write.contents c.args.out.now) (g.W.Write.contents c.print_views_at.new.out))
-      (sym (views_lines-push (map (λ views. views.items) all) views.items) ∙ ap views_lines (sym mapped)) lines,
+          (sym (views_lines-push (map (λ views. views.items) all) views.items) ∙ ap views_lines (sym mapped)) lines,
     )

@@ -2,7 +2,7 @@ use Rattle.std.proofs.Common.{arith, ◌≡◌, ◌+◌, ◌++◌, ◌<◌, ◌�
 use Rattle.std.proofs.KnownBytes.{Appends-trans}
 use Rattle.std.specs.Io.KnownBytes.{Appends}
 use Rattle.world_sim.specs.SeveralPrinting.{turn_line, turn_lines}
-use Rattle.world_sim.proofs.SharedRuns.{all_at, several_more, turn_lines-push}
+use Rattle.world_sim.proofs.SharedRuns.{several_more, turn_lines-push}
 use Rattle.world_sim.proofs.several_printing.print_turns.Goals as goal
 
 pub loop-turn-preserved : goal.loop-turn-preserved
@@ -19,5 +19,5 @@ loop-turn-preserved g c =
     c.loop-turn.invariant.1 c.in_ok-report.ensures.line in (
       runs,
       subst (Appends (g.W.Write.contents c.args.out.now) (g.W.Write.contents c.print_turn.new.out))
-      (ap (λ n. turn_lines 1 said ++ turn_line n last) number ∙ sym (turn_lines-push 1 said last) ∙ ap (turn_lines 1) (sym pushed)) lines,
+          (ap (λ n. turn_lines 1 said ++ turn_line n last) number ∙ sym (turn_lines-push 1 said last) ∙ ap (turn_lines 1) (sym pushed)) lines,
     )
