@@ -52,24 +52,29 @@ def words(seed):
         state = stepped(state, increment)
 
 
+def event(drawn, revisions, suffix=""):
+    """The event of a word, as a line, of records whose names end in the suffix."""
+    rest, what = divmod(drawn, 8)
+    letter = "abcg"[rest % 4]
+    name = letter + suffix
+    kind = "group" if letter == "g" else "user"
+    if what < 2:
+        revisions[letter] += 1
+        number = revisions[letter]
+        members = (f"a{suffix} b{suffix}", f"a{suffix}")[number % 2]
+        fields = members if kind == "group" else ",,,," + ("active" if number % 3 else "left")
+        return f"{kind} {name},{number},{fields}"
+    if what < 4:
+        return f"send {kind} {name}"
+    if what < 7:
+        return f"deliver {1 + rest % 64}"
+    return ("restart provider", "restart connector", f"cut {1 + rest % 64} {rest % 50}")[rest % 3]
+
+
 def schedule(seed, count):
     """The events of a seed, as lines."""
     revisions = dict.fromkeys("abcg", 0)
-    for _, drawn in zip(range(count), words(seed)):
-        rest, what = divmod(drawn, 8)
-        name = "abcg"[rest % 4]
-        kind = "group" if name == "g" else "user"
-        if what < 2:
-            revisions[name] += 1
-            number = revisions[name]
-            fields = ("a b", "a")[number % 2] if name == "g" else ",,,," + ("active" if number % 3 else "left")
-            yield f"{kind} {name},{number},{fields}"
-        elif what < 4:
-            yield f"send {kind} {name}"
-        elif what < 7:
-            yield f"deliver {1 + rest % 64}"
-        else:
-            yield ("restart provider", "restart connector", f"cut {1 + rest % 64} {rest % 50}")[rest % 3]
+    return [event(drawn, revisions) for _, drawn in zip(range(count), words(seed))]
 
 
 # ---- worked rows

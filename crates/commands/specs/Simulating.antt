@@ -5,7 +5,7 @@ use Rattle.std.specs.Str.{bytes_eq}
 use denote.Ref.{Bor}
 use Rattle.commands.specs.declared.simulating.Events.{Events}
 use Rattle.commands.specs.declared.simulating.Events.TheVariants.{Scheduled, Random}
-use Rattle.commands.specs.declared.simulating.EventsFault.TheVariants.{Source, Count}
+use Rattle.commands.specs.declared.simulating.EventsFault.TheVariants.{Source, Count, Connectors}
 use Rattle.commands.specs.declared.status.CommandFault.{CommandFault}
 use Rattle.commands.specs.declared.status.CommandFault.TheVariants as fault
 
@@ -22,6 +22,17 @@ wanted_events None (Some seed) (Some count) = random_events seed count
 wanted_events (Some file) None (Some count) = Err (fault.Events Count)
 wanted_events (Some file) (Some seed) count = Err (fault.Events Source)
 wanted_events None None count = Err (fault.Events Source)
+
+-- this number of connectors, from 1 to 100
+abbrev pub several : (connectors : ℕ) → Result (Option ℕ) CommandFault
+several connectors =
+    if nat_le 1 connectors && nat_le connectors 100 then Ok (Some connectors) else Err (fault.Events Connectors)
+
+-- How many connectors share the provider, if the arguments say it; the events of a schedule are of one connector
+abbrev pub wanted_connectors : Events → (connectors : Option ℕ) → Result (Option ℕ) CommandFault
+wanted_connectors events None = Ok None
+wanted_connectors (Random seed count) (Some connectors) = several connectors
+wanted_connectors (Scheduled file) (Some connectors) = Err (fault.Events Connectors)
 
 -- ---- single arguments
 

@@ -1,14 +1,20 @@
 -- What a `simulate` does, its exit status, and why it ends early.
-use Rattle.std.specs.Prelude.{◌≡◌, ℕ, Bool, List, Option}
+use Rattle.std.specs.Prelude.{◌≡◌, ℕ, Bool, List, Option, Some, length, map}
 use Rattle.std.specs.declared.io.Error.{Error}
 use Rattle.provider_core.specs.declared.registry.Registry.{Ghosts as Registries}
 use Rattle.journal_core.specs.declared.journals.Journal.{Ghosts as Journals}
 use Rattle.world_model.specs.World.{Event}
+use Rattle.source_csv.specs.Fields.{Record}
 use Rattle.world_sim.specs.Printing.{EndsPrinting, Prints}
+use Rattle.world_sim.specs.Random.{seed_draws_turns}
+use Rattle.world_sim.specs.Schedules.{ReadsFiles}
+use Rattle.world_sim.specs.SeveralPrinting.{PrintsSeveral}
 use Rattle.world_sim.specs.declared.following.TellingFault.{TellingFault}
 use Rattle.world_sim.specs.declared.printing.Printed.{Printed}
 use Rattle.world_sim.specs.declared.printing.ReportLines.{ReportLines}
-use Rattle.commands.specs.Statuses.{simulated_status, telling_fault}
+use Rattle.world_sim.specs.declared.several.Turn.{Turn}
+use Rattle.world_sim.specs.declared.several_printing.PrintedSeveral.{PrintedSeveral}
+use Rattle.commands.specs.Statuses.{several_status, simulated_status, telling_fault}
 use Rattle.commands.specs.declared.status.CommandFault.{CommandFault}
 use Rattle.commands.specs.declared.status.Status.{Status}
 
@@ -27,3 +33,15 @@ pub record EndsSimulation {R J W : Type 0} (g : Registries R) (h : Journals J) (
   pub why : TellingFault Error
   pub ends : EndsPrinting g h contents registry journal base events before after why
   pub is : fault ≡ telling_fault why
+
+-- The turns are those of the seed. The lines of their reports, of the runs to convergence and of the records of each
+-- connector were printed, and the status is theirs
+pub record SimulatesSeveral {R J : Type 0} (g : Registries R) (h : Journals J) (registry : R) (journals : List J)
+    (base : List ℕ) (seed count : ℕ) (asked : Bool) (before after : Option (List ℕ)) (status : Status) : Type 0 where
+  pub turns : List Turn
+  pub drawn : (records_in : List ℕ → List Record) → ReadsFiles records_in
+      → map Some turns ≡ seed_draws_turns records_in seed (length journals) count
+  pub printed : PrintedSeveral R J
+  pub prints : PrintsSeveral g h registry journals base turns asked before after printed
+  pub status_is : status
+      ≡ several_status printed.reports.items (map (λ views. views.items) printed.views.items)

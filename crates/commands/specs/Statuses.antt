@@ -30,6 +30,7 @@ use Rattle.world_sim.specs.declared.reports.WorldFault.{WorldFault}
 use Rattle.world_sim.specs.declared.reports.WorldFault.TheVariants as world
 use Rattle.world_sim.specs.declared.schedules.ScheduleFault.{ScheduleFault}
 use Rattle.world_sim.specs.declared.schedules.ScheduleFault.TheVariants as schedule
+use Rattle.world_sim.specs.declared.several.TurnReport.{TurnReport}
 use Rattle.world_sim.specs.declared.views.View.{View}
 use Rattle.connection.specs.declared.answering.Served.{Served}
 use Rattle.connection.specs.declared.answering.Served.TheVariants.{Answered, NoRequest, Lost}
@@ -198,6 +199,11 @@ is_confirmed view = same_revision view.confirmed view.wanted
 -- everything is done if no row was refused and every record is confirmed at the end
 abbrev pub simulated_status : List Report → List View → Status
 simulated_status reports views = if list_all is_taken reports && list_all is_confirmed views then Done else Refused
+
+-- the same for the turns and the records of several connectors
+abbrev pub several_status : List TurnReport → List (List View) → Status
+several_status reports views =
+    if list_all (λ said. is_taken said.report) reports && list_all (list_all is_confirmed) views then Done else Refused
 
 -- the fault of a run with its own provider
 abbrev pub loop_fault : LoopFault → CommandFault

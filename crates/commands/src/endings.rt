@@ -1,13 +1,13 @@
 //! The exit status of a run, by its result.
-ghost use Rattle.std.specs.Prelude.{◌≡◌};
+ghost use Rattle.std.specs.Prelude.{◌≡◌, map};
 ghost use Rattle.std.specs.List.{list_all};
-ghost use Rattle.commands.specs.Statuses.{carried_status, is_confirmed, is_taken, outcome_status, pushed_status, run_status, shown_status, simulated_status};
+ghost use Rattle.commands.specs.Statuses.{carried_status, is_confirmed, is_taken, outcome_status, pushed_status, run_status, several_status, shown_status, simulated_status};
 
 use crate::status::{CommandFault, Status};
 use connection::ConnectionFault;
 use provisioning::{LoopFault, Outcome, RunFault};
 use storage::ShowFault;
-use world_sim::{Report, View};
+use world_sim::{Report, TurnReport, View};
 
 /// The exit status of a run that has reported each fault of its connections.
 pub fn outcome_status(outcome: Result<(), ConnectionFault>) -> Status
@@ -86,6 +86,31 @@ pub fn simulated_status(reports: &[Report], views: &[View]) -> Status
     ensures { result ≡ simulated_status reports.now views.now }
 {
     if are_taken(reports) && are_confirmed(views) {
+        Status::Done
+    } else {
+        Status::Refused
+    }
+}
+
+fn are_all_taken(reports: &[TurnReport]) -> bool
+    ensures { result ≡ list_all (λ said. is_taken said.report) reports.now }
+{
+    reports.iter().all(|said| is_taken(&said.report))
+}
+
+fn are_all_confirmed(views: &[Vec<View>]) -> bool
+    ensures { result
+        ≡ list_all (list_all is_confirmed) (map (λ views. views.items) views.now) }
+{
+    views.iter().all(|views| are_confirmed(views.as_slice()))
+}
+
+/// The exit status of a run of several connectors, with these reports of its turns and these views of the
+/// records of each.
+pub fn several_status(reports: &[TurnReport], views: &[Vec<View>]) -> Status
+    ensures { result ≡ several_status reports.now (map (λ views. views.items) views.now) }
+{
+    if are_all_taken(reports) && are_all_confirmed(views) {
         Status::Done
     } else {
         Status::Refused

@@ -23,7 +23,7 @@ mod status;
 pub mod words;
 
 pub use answering::{answer, answer_one, answer_stored};
-pub use endings::{outcome_status, pushed_status, run_status, shown_status, simulated_status};
+pub use endings::{outcome_status, pushed_status, run_status, several_status, shown_status, simulated_status};
 pub use images::{map, print_images};
 pub use jobs::Job;
 pub use looping::carry;
@@ -36,7 +36,7 @@ pub use showing::show;
 pub use simulating_among::{
     Schedule, acted_status, schedule_of, simulate_among, tell_contested,
 };
-pub use simulation::simulate;
+pub use simulation::{simulate, simulate_several};
 pub use status::{
     Cause, CommandFault, Part, Reason, Status, listen_fault, told, unread_fault, words_fault,
 };

@@ -2,7 +2,7 @@
 ghost use Rattle.std.specs.Prelude.{◌≡◌, codes};
 ghost use Rattle.clap.specs.Matches.{first_value, found_of, one_text};
 ghost use Rattle.commands.specs.Addresses.{text_in};
-ghost use Rattle.commands.specs.Simulating.{is_set, wanted_events};
+ghost use Rattle.commands.specs.Simulating.{is_set, wanted_connectors, wanted_events};
 ghost use Rattle.commands.specs.Words.{GivesNumber};
 
 use crate::status::CommandFault;
@@ -14,6 +14,9 @@ pub const MOST_EVENTS: u32 = 100_000;
 
 /// How many random events there are if the arguments don't say.
 pub const DEFAULT_EVENTS: u32 = 1_000;
+
+/// The most connectors of a run.
+pub const MOST_CONNECTORS: u32 = 100;
 
 /// Where the events of a simulation come from.
 #[derive(Clone, Copy)]
@@ -31,6 +34,8 @@ pub enum EventsFault {
     Source,
     #[error("--events is 1 to {most}, with --seed", most = MOST_EVENTS)]
     Count,
+    #[error("--connectors is 1 to {most}, with --seed", most = MOST_CONNECTORS)]
+    Connectors,
 }
 
 /// The events of a schedule, or random ones, but not both.
@@ -56,6 +61,24 @@ pub fn wanted_events(
     }
 }
 
+/// How many connectors share the provider, if the arguments say it. Only random events are of several.
+pub fn wanted_connectors(
+    events: Events<'_>,
+    connectors: Option<u32>,
+) -> Result<Option<u32>, CommandFault>
+    ensures { result ≡ wanted_connectors events connectors }
+{
+    match (events, connectors) {
+        (_, None) => Ok(None),
+        (Events::Random { .. }, Some(connectors))
+            if (1..=MOST_CONNECTORS).contains(&connectors) =>
+        {
+            Ok(Some(connectors))
+        }
+        (_, Some(_)) => Err(CommandFault::Events(EventsFault::Connectors)),
+    }
+}
+
 /// The file of a schedule in the arguments, if there is one.
 pub fn schedule<'a>(matches: &ArgMatches<'a>) -> Option<&'a str>
     ensures { text_in result ≡ first_value (found_of matches.now) (codes "FILE") }
@@ -75,6 +98,13 @@ pub fn count(matches: &ArgMatches<'_>) -> Option<u32>
     ensures { GivesNumber 32 (one_text (found_of matches.now) (codes "events")) result }
 {
     matches.get_one("events")
+}
+
+/// The number of connectors in the arguments, if there is one and its text spells a number of 32 bits.
+pub fn connectors(matches: &ArgMatches<'_>) -> Option<u32>
+    ensures { GivesNumber 32 (one_text (found_of matches.now) (codes "connectors")) result }
+{
+    matches.get_one("connectors")
 }
 
 /// Whether the arguments ask for every record to be settled after the events.

@@ -1,16 +1,16 @@
 //! Runs the events of `simulate`.
-ghost use Rattle.std.specs.Prelude.{IfErr, IfOk};
-ghost use Rattle.commands.specs.Simulations.{EndsSimulation, Simulates};
+ghost use Rattle.std.specs.Prelude.{◌∷◌, IfErr, IfOk};
+ghost use Rattle.commands.specs.Simulations.{EndsSimulation, Simulates, SimulatesSeveral};
 ghost use Rattle.world_sim.specs.Events.{events_of};
 
-use crate::endings::simulated_status;
+use crate::endings::{several_status, simulated_status};
 use crate::status::{CommandFault, Status};
 use journal_core::ReopenJournal;
 use provider_core::Reopen;
 use scim_key::Base;
 use std::alloc::Global;
 use std::io::Write;
-use world_sim::{Event, ReportLines, print_run};
+use world_sim::{Event, ReportLines, print_run, print_several, random_turns};
 
 /// Runs events over a registry without rows and a journal without entries, and prints a line for each report
 /// as it comes. Then it settles every record if that is asked for, and prints how many exchanges that took, and
@@ -31,6 +31,35 @@ pub fn simulate<R: Reopen + Drop, J: ReopenJournal + Drop, W: Write + Drop>(
 {
     match print_run(alloc, registry, journal, base, events, settles, lines) {
         Ok(printed) => Ok(simulated_status(lines.reports.as_slice(), printed.views.as_slice())),
+        Err(fault) => Err(CommandFault::from(fault)),
+    }
+}
+
+/// Runs random turns of several connectors, one over each of these journals without entries, over a registry
+/// without rows, and prints a line for each as it comes. Then it settles every record of each if that is asked for,
+/// and prints how many exchanges that took, and a line for each record of each. It returns the exit status.
+pub fn simulate_several<R: Reopen + Drop, J: ReopenJournal + Drop, W: Write>(
+    alloc: Global,
+    registry: R,
+    first: J,
+    others: Vec<J>,
+    base: Base,
+    seed: u64,
+    count: u32,
+    settles: bool,
+    out: &mut W,
+) -> Result<Status, CommandFault>
+    ensures done { IfOk result
+        (SimulatesSeveral R.Registry J.Journal registry (first ∷ others.items) base seed count
+        settles (W.contents out.old) (W.contents out.new)) }
+{
+    let connectors = others.len() + 1;
+    let turns = random_turns(alloc, seed, count, connectors)?;
+    match print_several(alloc, registry, first, others, base, turns.as_slice(), settles, out) {
+        Ok(printed) => Ok(several_status(
+            printed.reports.as_slice(),
+            printed.views.as_slice(),
+        )),
         Err(fault) => Err(CommandFault::from(fault)),
     }
 }

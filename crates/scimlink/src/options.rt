@@ -232,6 +232,14 @@ static COMMANDS: &[CommandText] = &[
                 help: Help::OfEvents,
             },
             OptionText {
+                name: "connectors",
+                value: Value::Count,
+                rule: Rule::Optional,
+                help: Help::Text(
+                    "how many connectors share the provider, 1 to 100, with a seed",
+                ),
+            },
+            OptionText {
                 name: "settle",
                 value: Value::Nothing,
                 rule: Rule::Optional,

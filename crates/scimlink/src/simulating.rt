@@ -1,15 +1,18 @@
 //! `simulate`: runs events over connector and provider in memory.
 use crate::options::DEFAULT_BASE;
 use clap::ArgMatches;
-use commands::simulating::{Events, count, schedule, seed, settles, wanted_events};
+use commands::simulating::{
+    Events, connectors, count, schedule, seed, settles, wanted_connectors, wanted_events,
+};
 use commands::words::base_fault;
 use commands::{
     CommandFault, Part, Schedule, Status, schedule_of, simulate as run_events, simulate_among,
-    tell_contested, unread_fault,
+    simulate_several, tell_contested, unread_fault,
 };
 use journal_core::MemoryJournal;
 use provider_core::MemoryRegistry;
 use scim_key::Base;
+use std::alloc::Global;
 use std::io::BufWriter;
 use std::rt::Runtime;
 use std::{fs, io};
@@ -22,13 +25,17 @@ pub fn simulate<R: Runtime + AllocGlobal>(
     words: &ArgMatches<'_>,
 ) -> Result<Status, CommandFault> {
     let events = wanted_events(schedule(words), seed(words), count(words))?;
+    let connectors = wanted_connectors(events, connectors(words))?;
     let base = Base::read(rt.alloc(), DEFAULT_BASE).map_err(base_fault)?;
-    match events {
-        Events::Scheduled(file) => scheduled(rt, base, file, settles(words)),
-        Events::Random { seed, count } => {
+    match (events, connectors) {
+        (Events::Random { seed, count }, Some(connectors)) => {
+            run_several(rt, base, seed, count, connectors, settles(words))
+        }
+        (Events::Random { seed, count }, None) => {
             let events = random_schedule(rt.alloc(), seed, count)?;
             run(rt, base, events.as_slice(), settles(words))
         }
+        (Events::Scheduled(file), _) => scheduled(rt, base, file, settles(words)),
     }
 }
 
@@ -75,4 +82,30 @@ fn run_among<R: Runtime + AllocGlobal>(
     let journal = MemoryJournal::new(rt.alloc());
     let mut lines = ActLines::new(rt.alloc(), out);
     simulate_among(rt.alloc(), registry, journal, base, acts, settles, &mut lines)
+}
+
+/// The journals of the connectors behind the first one.
+fn journals(alloc: Global, connectors: u32) -> Result<Vec<MemoryJournal>, CommandFault> {
+    let mut journals = Vec::new(alloc);
+    for _ in 1..connectors {
+        journals.push(MemoryJournal::new(alloc))?;
+    }
+    Ok(journals)
+}
+
+/// Runs random turns of this many connectors over stores in memory.
+fn run_several<R: Runtime + AllocGlobal>(
+    rt: &R,
+    base: Base,
+    seed: u64,
+    count: u32,
+    connectors: u32,
+    settles: bool,
+) -> Result<Status, CommandFault> {
+    let mut out = BufWriter::new(rt.alloc(), io::writer(rt))?;
+    let others = journals(rt.alloc(), connectors)?;
+    let registry = MemoryRegistry::new(rt.alloc());
+    let first = MemoryJournal::new(rt.alloc());
+    let alloc = rt.alloc();
+    simulate_several(alloc, registry, first, others, base, seed, count, settles, &mut out)
 }

@@ -1,6 +1,5 @@
 -- Turns one after the other, from connectors that start, to records that are settled and shown.
 use Rattle.std.proofs.Common.{arith, ◌≡◌, ◌<◌, ◌+◌, ◌-◌, ◌^◌, ◌⊎◌, ℕ, zero, suc, Bool, true, false, is_some, List, [], ◌∷◌, ◌++◌, Option, Some, None, map, min, length, take, refl, ap, sym, subst, inl, inr, ◌∙◌, append-nil, append_assoc, length-append}
-use Rattle.std.proofs.KnownBytes.{Appends-kept, Appends-trans}
 use Rattle.std.proofs.Math.ListN.{get_or}
 use Rattle.std.proofs.Math.Seq.{take-suc}
 use Rattle.std.proofs.lemmas.List.{map_push, map-append}
@@ -10,18 +9,17 @@ use Rattle.provider_core.specs.declared.registry.Registry.{Ghosts as Registries}
 use Rattle.journal_core.specs.declared.journals.Journal.{Ghosts as Journals}
 use Rattle.world_model.specs.Invariant.{Names}
 use Rattle.world_model.specs.Others.{HeadlineAmong}
-use Rattle.world_model.specs.Reports.{Report, report}
+use Rattle.world_model.specs.Reports.{report}
 use Rattle.world_model.specs.Safe.{Onward}
-use Rattle.world_model.specs.Several.{Shared, Turn, nobody, world_at, with_world, happens_at, run_several, side_after, NoneShared, EachItsOwn, IsItsOwn}
-use Rattle.world_model.specs.World.{World, Message, names as world_names}
+use Rattle.world_model.specs.Several.{Shared, nobody, world_at, with_world, happens_at, run_several, side_after, NoneShared, EachItsOwn, IsItsOwn}
+use Rattle.world_model.specs.World.{Message}
 use Rattle.world_model.proofs.Several.{always_safe_for_each, always_onward_for_each, headline_holds_for_each}
 use Rattle.world_sim.specs.Events.{event_of, report_of}
 use Rattle.world_sim.specs.Messages.{message_size}
-use Rattle.world_sim.specs.Printing.{ShowsAll, settled_lines, view_lines}
+use Rattle.world_sim.specs.Printing.{settled_lines, view_lines}
 use Rattle.world_sim.specs.Running.{IsAmong, IsSound, Starts, journal_in}
-use Rattle.world_sim.specs.Several.{Adds, AreAmong, AreOpen, AreSettling, AreSound, GoesOnSharing, HappensAt, IsBelow, IsDoneAt, IsNew, IsRunSeveral, IsSeatAt, RunsSeveral, RunsSeveralFromEmpty, SettlesAt, SettlesEach, StartsSeveral, seat_of, seated, seats_of, turn_of, turn_report_of, turn_reports, turns_of}
+use Rattle.world_sim.specs.Several.{Adds, AreAmong, AreSound, GoesOnSharing, HappensAt, IsNew, IsSeatAt, RunsSeveral, RunsSeveralFromEmpty, SettlesAt, SettlesEach, StartsSeveral, seat_of, seated, seats_of, turn_of, turn_report_of, turn_reports, turns_of}
 use Rattle.world_sim.specs.SeveralPrinting.{PrintsSeveral, ReachesEach, SettlesEachIf, ShowsAt, ShowsEach, turn_line, turn_lines, views_lines, views_of}
-use Rattle.world_sim.specs.Views.{view}
 use Rattle.world_sim.specs.declared.several.Seat.{Seat}
 use Rattle.world_sim.specs.declared.several.SharedWorld.{SharedWorld}
 use Rattle.world_sim.specs.declared.several.Turn.{Turn as TurnOf}

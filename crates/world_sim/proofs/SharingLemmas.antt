@@ -1,9 +1,8 @@
 -- Several connectors over one provider: one turn, turns one after the other, and from empty stores.
-use Rattle.std.proofs.Common.{arith, ◌≡◌, ◌≢◌, ◌<◌, ◌+◌, ◌⊎◌, ◌==◌, ℕ, zero, suc, true, false, List, [], ◌∷◌, ◌++◌, Option, Some, None, map, length, take, drop, refl, ap, sym, subst, inl, inr, ◌∙◌}
-use Rattle.std.proofs.Math.ListN.{get_or, set}
-use Rattle.std.proofs.Math.Seq.{take-suc}
+use Rattle.std.proofs.Common.{arith, ◌≡◌, ◌≢◌, ◌<◌, ◌+◌, ◌==◌, ℕ, zero, suc, true, false, List, [], ◌∷◌, Option, Some, None, map, length, refl, ap, sym, subst, inl, inr, ◌∙◌}
+use Rattle.std.proofs.Math.ListN.{set}
 use Rattle.std.proofs.lemmas.Bool.{cases_Bool, eqb-true, eqb-false, false_from_ne_true}
-use Rattle.std.proofs.lemmas.List.{append_assoc, length-set, map_push, map-append, take-append-drop}
+use Rattle.std.proofs.lemmas.List.{length-set}
 use Rattle.std.proofs.lemmas.Option.{slice_get_within}
 use Rattle.std.specs.List.{AllByRecursion, slice_get}
 use Rattle.scim_key.specs.Bases.{IsBase}
@@ -11,7 +10,7 @@ use Rattle.scim_resource.specs.Contents.{content_name}
 use Rattle.scim_resource.specs.declared.contents.Content.{Content}
 use Rattle.scim_message.specs.declared.messages.Request.{Request}
 use Rattle.scim_message.specs.declared.messages.Request.TheVariants.{Create, Retrieve, Search, Replace}
-use Rattle.provider_core.specs.Stories.{Entry, step}
+use Rattle.provider_core.specs.Stories.{Entry}
 use Rattle.provider_core.specs.declared.registry.Registry.{Ghosts as Registries}
 use Rattle.journal_core.specs.declared.journals.Journal.{Ghosts as Journals}
 use Rattle.connector_core.specs.Asking.{asking}
@@ -19,29 +18,24 @@ use Rattle.connector_core.specs.History.{History}
 use Rattle.connector_core.specs.declared.asking.Ask.{Ask}
 use Rattle.connector_core.specs.declared.asking.Ask.TheVariants.{Nothing, Waits, Send}
 use Rattle.world_model.specs.Invariant.{Names, AllOurs, AskedTruly, InvariantOf}
-use Rattle.world_model.specs.Others.{Ours, Theirs, HeadlineAmong, LeavesAlone, OfOurs, SafeAmong, run_among}
-use Rattle.world_model.specs.Reports.{Report, report}
-use Rattle.world_model.specs.Safe.{IsImage, Onward}
-use Rattle.world_model.specs.Several.{Shared, Side, Turn, On, Elsewhere, nobody, world_of, world_at, with_world, happens_at, run_several, side_after, NoneShared, EachItsOwn, IsItsOwn}
+use Rattle.world_model.specs.Others.{Ours, Theirs, LeavesAlone, OfOurs}
+use Rattle.world_model.specs.Safe.{IsImage}
+use Rattle.world_model.specs.Several.{Shared, Side, world_of, world_at, with_world}
 use Rattle.world_model.specs.World.{World, Message, Asked, Answered, Event, run, Changes, Sends, Delivers, Cuts, Restarts_provider, Restarts_connector, empty, happens, sends, delivers, message_at}
 use Rattle.world_model.proofs.Invariant.{message_there, among_inv, none_inv}
 use Rattle.world_model.proofs.Ranking.{record_ours}
-use Rattle.world_model.proofs.Several.{at_same, at_other, always_safe_for_each, always_onward_for_each, headline_holds_for_each}
-use Rattle.world_sim.specs.Events.{event_of, report_of}
-use Rattle.world_sim.specs.Messages.{message_size, message_text}
-use Rattle.world_sim.specs.Running.{Happens, IsAmong, IsReachedAmong, IsSound, Starts, journal_in}
+use Rattle.world_model.proofs.Several.{at_same, at_other}
+use Rattle.world_sim.specs.Messages.{message_text}
+use Rattle.world_sim.specs.Running.{Happens, IsAmong, IsReachedAmong, IsSound, journal_in}
 use Rattle.world_sim.specs.Settling.{Settles}
-use Rattle.world_sim.specs.Several.{AreAmong, AreOpen, AreSound, GoesOnSharing, HappensAt, IsDoneAt, IsSeatAt, RunsSeveral, SettlesAt, others_with, seat_of, seated, seats_of, turn_of, turn_report_of, turn_reports, turns_of}
+use Rattle.world_sim.specs.Several.{AreAmong, AreOpen, AreSound, HappensAt, IsDoneAt, IsSeatAt, SettlesAt, others_with, seat_of, seated, seats_of}
 use Rattle.world_sim.specs.declared.reports.Report.{Report as ReportOf}
 use Rattle.world_sim.specs.declared.settling.Count.{Count}
 use Rattle.world_sim.specs.declared.several.Seat.{Seat}
 use Rattle.world_sim.specs.declared.several.SharedWorld.{SharedWorld}
-use Rattle.world_sim.specs.declared.several.Turn.{Turn as TurnOf}
-use Rattle.world_sim.specs.declared.several.TurnReport.{TurnReport}
 use Rattle.world_sim.specs.declared.worlds.World.{World as Running}
 use Rattle.world_sim.proofs.Reaching.{formed_same, reaches}
 use Rattle.world_sim.proofs.SettlingLemmas.{done_is, own_events}
-use Rattle.world_sim.proofs.WholeRuns.{all_back, all_front}
 
 -- ---- an element that is put into a list
 

@@ -1,5 +1,5 @@
 -- Runs of several connectors whose reports and records are printed.
-use Rattle.std.specs.Prelude.{◌≡◌, ◌⊎◌, ◌+◌, ℕ, zero, suc, Bool, true, false, List, [], ◌∷◌, ◌++◌, Option, Some, None}
+use Rattle.std.specs.Prelude.{◌≡◌, ◌+◌, ℕ, zero, suc, Bool, true, false, List, [], ◌∷◌, ◌++◌, Option, Some, None}
 use Rattle.std.specs.Prelude.{codes, is_some, length, map}
 use Rattle.std.specs.Fmt.{decimal}
 use Rattle.std.specs.Io.KnownBytes.{Appends}
@@ -8,7 +8,7 @@ use Rattle.provider_core.specs.declared.registry.Registry.{Ghosts as Registries}
 use Rattle.journal_core.specs.declared.journals.Journal.{Ghosts as Journals}
 use Rattle.world_model.specs.Invariant.{Names}
 use Rattle.world_model.specs.Several.{Shared, nobody, world_at, run_several, NoneShared, EachItsOwn}
-use Rattle.world_model.specs.World.{World, names as world_names}
+use Rattle.world_model.specs.World.{names as world_names}
 use Rattle.world_sim.specs.Lines.{report_text}
 use Rattle.world_sim.specs.Printing.{ShowsAll, settled_lines, view_lines}
 use Rattle.world_sim.specs.Several.{AreAmong, AreSettling, AreSound, IsDoneAt, IsNew, IsRunSeveral, SettlesEach, seats_of, turns_of}

@@ -21,13 +21,16 @@ const MESSAGES: u32 = 64;
 /// Lengths of cut messages are drawn below this.
 const LENGTHS: u32 = 50;
 
+/// The last revision of each record: of three users and a group.
+pub(crate) type Revisions = [u32; 4];
+
 /// The event that a word draws, of records whose names end in `suffix` and that have these last revisions.
 /// The three lowest bits say what happens; the others say to which record or message.
 #[tactic(auto, unfolding(crate::specs::Random::event_drawn, crate::specs::Random::counters_after))]
 pub(crate) fn event_drawn(
     alloc: Global,
     suffix: &str,
-    revisions: &mut [u32; 4],
+    revisions: &mut Revisions,
     word: u32,
 ) -> Result<Event, AllocError>
     ensures event { (records_in : List ℕ → List Record) → ReadsFiles records_in
@@ -51,7 +54,7 @@ pub(crate) fn event_drawn(
 fn change(
     alloc: Global,
     suffix: &str,
-    revisions: &mut [u32; 4],
+    revisions: &mut Revisions,
     place: usize,
 ) -> Result<Event, AllocError>
     requires { place < 4 }

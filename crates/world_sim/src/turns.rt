@@ -6,7 +6,7 @@ ghost use Rattle.world_sim.specs.Random.{all_after, place_drawn, seed_draws_turn
 ghost use Rattle.world_sim.specs.Schedules.{ReadsFiles};
 ghost use Rattle.world_sim.specs.Several.{IsBelow};
 
-use crate::random::event_drawn;
+use crate::random::{Revisions, event_drawn};
 use crate::several::Turn;
 use rand_core::SeedableRng;
 use rand_core::utils::NextWord;
@@ -17,7 +17,7 @@ use std::alloc::{AllocError, Global};
 #[derive(Drop)]
 struct Draws {
     generator: Lcg64Xsh32,
-    revisions: Vec<[u32; 4]>,
+    revisions: Vec<Revisions>,
 }
 
 impl Draws {
@@ -51,7 +51,7 @@ pub fn random_turns(
     alloc: Global,
     seed: u64,
     count: u32,
-    connectors: u32,
+    connectors: usize,
 ) -> Result<Vec<Turn>, AllocError>
     requires { 0 < connectors }
     ensures length { IfOk result (λ turns. length turns.items ≡ count) }
@@ -62,7 +62,7 @@ pub fn random_turns(
 {
     let mut draws = Draws {
         generator: Lcg64Xsh32::seed_from_u64(seed),
-        revisions: vec![in alloc; [0; 4]; connectors as usize]?,
+        revisions: vec![in alloc; [0; 4]; connectors]?,
     };
     let mut turns = Vec::new(alloc);
     for _ in 0..count {

@@ -2,7 +2,7 @@ use Rattle.std.proofs.Common.{arith, ◌≡◌, ◌+◌, ◌++◌, ◌<◌, ◌�
 use Rattle.std.proofs.KnownBytes.{Appends-trans}
 use Rattle.std.specs.Io.KnownBytes.{Appends}
 use Rattle.world_sim.specs.SeveralPrinting.{turn_line, turn_lines}
-use Rattle.world_sim.proofs.SharedRuns.{all_at, several_more, turn_lines-push}
+use Rattle.world_sim.proofs.SharedRuns.{several_more, turn_lines-push}
 use Rattle.world_sim.proofs.several_printing.print_turns.Goals as goal
 
 pub loop-turn-preserved : goal.loop-turn-preserved
