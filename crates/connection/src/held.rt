@@ -137,7 +137,11 @@ impl<S: Read + Drop> Held<S> {
             Ok(count) => {
                 let kept = self.received.add(&buffer[..count]);
                 prove!(kept.is_ok());
-                if count == room { Taken::Filled } else { Taken::Bytes }
+                if count == room {
+                    Taken::Filled
+                } else {
+                    Taken::Bytes
+                }
             }
             Err(error) => match error.kind() {
                 ErrorKind::WouldBlock | ErrorKind::Interrupted => Taken::Nothing,
