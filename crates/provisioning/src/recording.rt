@@ -9,54 +9,10 @@ use std::io::{ErrorKind, Read};
 /// How many bytes of an answer are kept to explain its faults. Most heads are shorter.
 pub(crate) const KEPT_LIMIT: usize = 4096;
 
-/// How many bytes are kept before there is room for all of them.
-const FEW: usize = 2048;
-
-/// The bytes that are kept. Their array is cleared before it is used, so it is short while few have come.
-#[derive(Clone, Copy)]
-enum Kept {
-    Few([u8; FEW]),
-    Many([u8; KEPT_LIMIT]),
-}
-
-impl Kept {
-    fn as_slice(&self) -> &[u8] {
-        match self {
-            Kept::Few(room) => room.as_slice(),
-            Kept::Many(room) => room.as_slice(),
-        }
-    }
-
-    /// Writes bytes from this place on, as far as there is room.
-    fn write(&mut self, place: usize, bytes: &[u8]) {
-        match self {
-            Kept::Few(room) => write_at(room, place, bytes),
-            Kept::Many(room) => write_at(room, place, bytes),
-        }
-    }
-
-    /// Makes room for all bytes that are kept.
-    fn grow(&mut self) {
-        if let Kept::Few(few) = self {
-            let mut many = [0; KEPT_LIMIT];
-            write_at(&mut many, 0, few);
-            *self = Kept::Many(many);
-        }
-    }
-}
-
-/// Writes bytes from this place on, as far as there is room.
-fn write_at(room: &mut [u8], place: usize, bytes: &[u8]) {
-    let start = place.min(room.len());
-    let rest = &mut room[start..];
-    let count = bytes.len().min(rest.len());
-    rest[..count].copy_from_slice(&bytes[..count]);
-}
-
 /// What came on a stream: the first bytes, how many there were, and the last error.
 #[derive(Clone, Copy)]
 pub struct Heard {
-    kept: Kept,
+    first: [u8; KEPT_LIMIT],
     count: usize,
     error: Option<ErrorKind>,
 }
@@ -65,7 +21,7 @@ impl Heard {
     /// Nothing came yet.
     pub(crate) fn nothing() -> Heard {
         Heard {
-            kept: Kept::Few([0; FEW]),
+            first: [0; KEPT_LIMIT],
             count: 0,
             error: None,
         }
@@ -73,8 +29,7 @@ impl Heard {
 
     /// The first bytes.
     pub(crate) fn first(&self) -> &[u8] {
-        let kept = self.kept.as_slice();
-        &kept[..self.count.min(kept.len())]
+        &self.first[..self.count.min(KEPT_LIMIT)]
     }
 
     /// How many bytes came, up to the greatest `usize`.
@@ -89,12 +44,10 @@ impl Heard {
 
     /// Keeps bytes that came, as far as there is room.
     fn keep(&mut self, bytes: &[u8]) {
-        let count = self.count.saturating_add(bytes.len());
-        if count > FEW {
-            self.kept.grow();
-        }
-        self.kept.write(self.count, bytes);
-        self.count = count;
+        let room = &mut self.first[self.count.min(KEPT_LIMIT)..];
+        let kept = bytes.len().min(room.len());
+        room[..kept].copy_from_slice(&bytes[..kept]);
+        self.count = self.count.saturating_add(bytes.len());
     }
 
     /// Notes that a read failed.
