@@ -5,4 +5,4 @@ use Rattle.http_text.specs.declared.arrays.AheadArray.TheVariants.{Short, Long}
 
 abbrev pub bytes_of : AheadArray → List ℕ
 bytes_of (Short bytes) = bytes
-bytes_of (Long bytes) = bytes
+bytes_of (Long bytes) = bytes.value

@@ -4,21 +4,22 @@ ghost use Rattle.std.specs.Io.{ReadsAtMost};
 ghost use Rattle.std.specs.Io.KnownBytes.{ReadConsumes};
 ghost use Rattle.http_text.specs.Arrays.{bytes_of};
 
+use std::alloc::Global;
 use std::io;
 use std::io::Read;
 
 /// The most bytes that the first read takes, which most messages don't have.
-const FIRST_READ: usize = 2_048;
+const FIRST_READ: usize = 1_536;
 
 /// The most bytes that a later read takes.
 const LATER_READ: usize = 8_192;
 
 /// An array for the bytes that are read ahead. It is cleared before it is used, so the long one is taken only once a
-/// read has filled the short one.
+/// read has filled the short one. It is on the heap, because an enum is cleared whole.
 #[derive(Drop)]
 pub(crate) enum AheadArray {
     Short([u8; FIRST_READ]),
-    Long([u8; LATER_READ]),
+    Long(Box<[u8; LATER_READ]>),
 }
 
 impl AheadArray {
@@ -35,12 +36,13 @@ impl AheadArray {
         }
     }
 
-    /// Takes the long array, if the last read filled the short one.
-    pub(crate) fn grow(&mut self, last: usize) {
+    /// Takes the long array, if the last read filled the short one and there is memory for it.
+    pub(crate) fn grow(&mut self, alloc: Global, last: usize) {
         if let AheadArray::Short(bytes) = self
             && bytes.len() == last
+            && let Ok(long) = Box::new(alloc, [0; LATER_READ])
         {
-            *self = AheadArray::Long([0; LATER_READ]);
+            *self = AheadArray::Long(long);
         }
     }
 
@@ -53,7 +55,7 @@ impl AheadArray {
     {
         match self {
             AheadArray::Short(bytes) => reader.read(bytes),
-            AheadArray::Long(bytes) => reader.read(bytes),
+            AheadArray::Long(bytes) => reader.read(&mut **bytes),
         }
     }
 }

@@ -6,6 +6,7 @@ ghost use Rattle.http_text.specs.Streams.{Looks, read_turn, read_failures};
 
 use crate::arrays::AheadArray;
 use crate::counts::count;
+use std::alloc::Global;
 use std::io::{ErrorKind, Read};
 use std::marker::Model;
 
@@ -105,7 +106,7 @@ impl<R: Read> Input<R> {
     }
 
     /// Reads ahead, if no bytes are there from an earlier read.
-    pub(crate) fn look(&mut self) -> ReadTurn
+    pub(crate) fn look(&mut self, alloc: Global) -> ReadTurn
         requires { self.old.ahead ≡ [] }
         ensures kept { Keeps self.old.remaining self.new.remaining }
         ensures found { Looks self.new result }
@@ -113,7 +114,7 @@ impl<R: Read> Input<R> {
         ensures failures { self.new.failures ≡ count_up self.old.failures (read_failures result) }
     {
         count(&mut self.reads);
-        self.array.grow(self.end);
+        self.array.grow(alloc, self.end);
         self.start = 0;
         self.end = 0;
         let outcome = self.array.fill(&mut self.reader);
