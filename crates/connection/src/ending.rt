@@ -14,9 +14,9 @@ use std::net::OpenStream;
 use std::time::{Clock, Instant};
 
 /// The most bytes that one read discards, and the most reads of one look.
-const DRAIN_READ: usize = 4_096;
+const DRAIN_READ: usize = 2_048;
 
-const DRAIN_READS: u32 = 16;
+const DRAIN_READS: u32 = 32;
 
 /// A connection that was served. The rest of its answer is sent as its peer takes it. Then what the peer
 /// still sends is discarded for a while: closing a stream while its peer sends resets it, and the peer may

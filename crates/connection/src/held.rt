@@ -1,7 +1,8 @@
 //! Connections whose requests aren't whole yet.
 ghost use Rattle.std.specs.Prelude.{◌≡◌, []};
 ghost use Rattle.std.specs.Io.KnownBytes.{Keeps, prepend_known};
-ghost use Rattle.connection.specs.Holding.{HasCome, Looks, is_time};
+ghost use Rattle.connection.specs.Holding.{HasCome, HasTaken, Looks, is_time};
+ghost use Rattle.connection.specs.declared.received.Received.{Received};
 
 use crate::deadline::Deadline;
 use crate::pace::next_look;
@@ -15,10 +16,10 @@ use std::time::Instant;
 const MOST_BYTES: usize = HEAD_LIMIT + BODY_LIMIT as usize;
 
 /// The most bytes that one read takes.
-const READ_LIMIT: usize = 4_096;
+const READ_LIMIT: usize = 2_048;
 
 /// The most reads of one look, which are enough for a whole request.
-const MOST_READS: u32 = 12;
+const MOST_READS: u32 = 24;
 
 /// A connection, and what its peer has sent so far.
 #[derive(Drop)]
@@ -40,6 +41,17 @@ pub(crate) enum Arrival {
     Nothing,
     /// The request is whole or refused, or no more comes: the stream has ended or failed, there is no room, or out
     /// of memory.
+    Last,
+}
+
+/// What a read gave.
+#[derive(Clone, Copy)]
+pub(crate) enum Taken {
+    /// As many bytes as there was room for: more may be there.
+    Filled,
+    Bytes,
+    Nothing,
+    /// No more comes: the stream has ended or failed, there is no room, or out of memory.
     Last,
 }
 
@@ -84,7 +96,7 @@ impl<S: Read + Drop> Held<S> {
         false
     }
 
-    /// Takes what has come, up to a whole request.
+    /// Takes what has come, up to a whole request. It is judged once it was all taken.
     fn receive(&mut self, alloc: Global) -> Arrival
         ensures bytes { Keeps (prepend_known self.old.received.bytes.items (S.remaining self.old.stream))
             (prepend_known self.new.received.bytes.items (S.remaining self.new.stream)) }
@@ -92,47 +104,64 @@ impl<S: Read + Drop> Held<S> {
         ensures accepted { self.new.accepted ≡ self.old.accepted }
         ensures come { HasCome self.old.received self.new.received result }
     {
-        let mut arrival = Arrival::Nothing;
+        let mut has_come = false;
         for _ in 0..MOST_READS {
-            match self.read_once(alloc) {
-                Arrival::Bytes => arrival = Arrival::Bytes,
-                Arrival::Nothing => return arrival,
-                Arrival::Last => return Arrival::Last,
+            match self.read_once() {
+                Taken::Filled => has_come = true,
+                Taken::Bytes => return self.judge(alloc),
+                Taken::Nothing if has_come => return self.judge(alloc),
+                Taken::Nothing => return Arrival::Nothing,
+                Taken::Last => return Arrival::Last,
             }
         }
-        arrival
+        self.judge(alloc)
     }
 
     /// Takes what one read gives.
-    fn read_once(&mut self, alloc: Global) -> Arrival
+    fn read_once(&mut self) -> Taken
         ensures bytes { Keeps (prepend_known self.old.received.bytes.items (S.remaining self.old.stream))
             (prepend_known self.new.received.bytes.items (S.remaining self.new.stream)) }
         ensures deadline { self.new.deadline ≡ self.old.deadline }
         ensures accepted { self.new.accepted ≡ self.old.accepted }
-        ensures come { HasCome self.old.received self.new.received result }
+        ensures taken { HasTaken self.old.received self.new.received result }
     {
         let mut buffer = [0; READ_LIMIT];
         let room = MOST_BYTES
             .saturating_sub(self.received.bytes.len())
             .min(READ_LIMIT);
         if self.received.reserve(room).is_err() {
-            return Arrival::Last;
+            return Taken::Last;
         }
         match self.stream.read(&mut buffer[..room]) {
-            Ok(0) => Arrival::Last,
+            Ok(0) => Taken::Last,
             Ok(count) => {
                 let kept = self.received.add(&buffer[..count]);
                 prove!(kept.is_ok());
-                if self.received.is_ready(alloc) {
-                    Arrival::Last
+                if count == room {
+                    Taken::Filled
                 } else {
-                    Arrival::Bytes
+                    Taken::Bytes
                 }
             }
             Err(error) => match error.kind() {
-                ErrorKind::WouldBlock | ErrorKind::Interrupted => Arrival::Nothing,
-                _ => Arrival::Last,
+                ErrorKind::WouldBlock | ErrorKind::Interrupted => Taken::Nothing,
+                _ => Taken::Last,
             },
+        }
+    }
+
+    /// Whether what has come decides what is answered.
+    fn judge(&mut self, alloc: Global) -> Arrival
+        ensures come { (earlier : Received) → HasCome earlier self.new.received result }
+        ensures bytes { self.new.received.bytes ≡ self.old.received.bytes }
+        ensures stream { self.new.stream ≡ self.old.stream }
+        ensures deadline { self.new.deadline ≡ self.old.deadline }
+        ensures accepted { self.new.accepted ≡ self.old.accepted }
+    {
+        if self.received.is_ready(alloc) {
+            Arrival::Last
+        } else {
+            Arrival::Bytes
         }
     }
 }

@@ -1,3 +1,4 @@
+pub mod Arrays
 pub mod Counts
 pub mod Forms
 pub mod Heads

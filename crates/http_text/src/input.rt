@@ -4,12 +4,11 @@ ghost use Rattle.std.specs.Io.KnownBytes.{Keeps, Consumes, prepend_known};
 ghost use Rattle.http_text.specs.Counts.{count_up};
 ghost use Rattle.http_text.specs.Streams.{Looks, read_turn, read_failures};
 
+use crate::arrays::AheadArray;
 use crate::counts::count;
+use std::alloc::Global;
 use std::io::{ErrorKind, Read};
 use std::marker::Model;
-
-/// The most bytes that are read ahead.
-const AHEAD_LIMIT: usize = 8_192;
 
 /// A reader that counts its reads and its failed reads, each up to the greatest `u64`. An interrupted read
 /// isn't a failure. It reads ahead into its own array, so that taking a byte needs no call of the reader.
@@ -17,7 +16,7 @@ const AHEAD_LIMIT: usize = 8_192;
 #[derive(Drop)]
 pub struct Input<R: Read> {
     reader: R,
-    buffer: [u8; AHEAD_LIMIT],
+    array: AheadArray,
     start: usize,
     end: usize,
     reads: u64,
@@ -34,21 +33,21 @@ pub(crate) enum ReadTurn {
 }
 
 impl<R: Read> Model for Input<R> {
-    ghost use Rattle.std.specs.Prelude.{◌≤◌, slice_range};
+    ghost use Rattle.std.specs.Prelude.{◌≤◌, length, slice_range};
     ghost use Rattle.std.specs.Io.KnownBytes.{prepend_known};
+    ghost use Rattle.http_text.specs.Arrays.{bytes_of};
     ghost use Rattle.http_text.specs.Counts.{Reading};
-    ghost use Rattle.http_text.specs.declared.input.TheConstants.{AHEAD_LIMIT};
 
     ghost Value = { Reading };
 
     ghost view = { λ s. record {
-      remaining = prepend_known (slice_range s.buffer s.start s.end) (R.remaining s.reader);
-      ahead = slice_range s.buffer s.start s.end;
+      remaining = prepend_known (slice_range (bytes_of s.array) s.start s.end) (R.remaining s.reader);
+      ahead = slice_range (bytes_of s.array) s.start s.end;
       calls = s.reads;
       failures = s.failed_reads;
     } };
 
-    ghost invariant = { λ s. (s.start ≤ s.end) × (s.end ≤ AHEAD_LIMIT) };
+    ghost invariant = { λ s. (s.start ≤ s.end) × (s.end ≤ length (bytes_of s.array)) };
 }
 
 impl<R: Read> Input<R> {
@@ -59,7 +58,7 @@ impl<R: Read> Input<R> {
     {
         Input {
             reader,
-            buffer: [0; AHEAD_LIMIT],
+            array: AheadArray::new(),
             start: 0,
             end: 0,
             reads: 0,
@@ -78,7 +77,7 @@ impl<R: Read> Input<R> {
     pub fn ahead(&self) -> &[u8]
         ensures { result.now ≡ self.now.ahead }
     {
-        &self.buffer[self.start..self.end]
+        &self.array.as_slice()[self.start..self.end]
     }
 
     /// How many reads were made.
@@ -107,7 +106,7 @@ impl<R: Read> Input<R> {
     }
 
     /// Reads ahead, if no bytes are there from an earlier read.
-    pub(crate) fn look(&mut self) -> ReadTurn
+    pub(crate) fn look(&mut self, alloc: Global) -> ReadTurn
         requires { self.old.ahead ≡ [] }
         ensures kept { Keeps self.old.remaining self.new.remaining }
         ensures found { Looks self.new result }
@@ -115,9 +114,10 @@ impl<R: Read> Input<R> {
         ensures failures { self.new.failures ≡ count_up self.old.failures (read_failures result) }
     {
         count(&mut self.reads);
+        self.array.grow(alloc, self.end);
         self.start = 0;
         self.end = 0;
-        let outcome = self.reader.read(&mut self.buffer);
+        let outcome = self.array.fill(&mut self.reader);
         let turn = turn_of(outcome.map_err(|error| error.kind()));
         match turn {
             ReadTurn::Bytes(length) => self.end = length,

@@ -2,6 +2,7 @@
 //! to a writer.
 #![tactic(auto)]
 
+mod arrays;
 mod counts;
 mod fault;
 mod incoming;

@@ -54,7 +54,7 @@ fn read_whole<R: Read>(
 {
     let mut message = read_head(alloc, kind, reader, turns)?;
     let length = kind.judge(&message)?;
-    read_body(reader, &mut message, length, turns)?;
+    read_body(alloc, reader, &mut message, length, turns)?;
     Ok(message)
 }
 
@@ -78,7 +78,7 @@ fn read_head<R: Read>(
     let mut fields = [EMPTY_HEADER_SPAN; FIELD_LIMIT];
     let mut step = HEAD_LIMIT;
     loop {
-        look_ahead(reader, turns)?;
+        look_ahead(alloc, reader, turns)?;
         let before = bytes.len();
         let count = step.min(reader.ahead().len()).min(HEAD_LIMIT - before);
         if bytes.extend_from_slice(&reader.ahead()[..count]).is_err() {
@@ -104,6 +104,7 @@ fn read_head<R: Read>(
 
 /// Reads the bytes of a body.
 fn read_body<R: Read>(
+    alloc: Global,
     reader: &mut Input<R>,
     message: &mut Incoming,
     length: u64,
@@ -118,7 +119,7 @@ fn read_body<R: Read>(
 {
     let mut left = length as usize;
     while left > 0 {
-        look_ahead(reader, turns)?;
+        look_ahead(alloc, reader, turns)?;
         let count = left.min(reader.ahead().len());
         message.append(&reader.ahead()[..count])?;
         reader.take(count);
@@ -129,7 +130,11 @@ fn read_body<R: Read>(
 
 /// Reads ahead, if no bytes are there from an earlier read. An interrupted read is made again while turns
 /// remain.
-fn look_ahead<R: Read>(reader: &mut Input<R>, turns: &mut u32) -> Result<(), ReadFault>
+fn look_ahead<R: Read>(
+    alloc: Global,
+    reader: &mut Input<R>,
+    turns: &mut u32,
+) -> Result<(), ReadFault>
     ensures kept { OnOk result (Keeps reader.old.remaining reader.new.remaining) }
     ensures some { OnOk result (0 < length reader.new.ahead) }
     ensures none { IfErr result (GivesNone reader.old.remaining reader.new.remaining) }
@@ -142,7 +147,7 @@ fn look_ahead<R: Read>(reader: &mut Input<R>, turns: &mut u32) -> Result<(), Rea
             return Err(ReadFault::TurnsExhausted);
         }
         *turns -= 1;
-        match reader.look() {
+        match reader.look(alloc) {
             ReadTurn::Bytes(_) | ReadTurn::Interrupted => {}
             ReadTurn::End => return Err(ReadFault::EndedEarly),
             ReadTurn::Failed => return Err(ReadFault::ReadFailed),
