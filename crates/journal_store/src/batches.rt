@@ -8,7 +8,7 @@ ghost use Rattle.source_csv.specs.Rows.{IsGroupRow, IsUserRow};
 ghost use Rattle.source_csv.specs.declared.rows.Row.TheVariants.{User, Group};
 ghost use Rattle.journal_core.specs.Entries.{CanPutRows};
 ghost use Rattle.journal_store.specs.Rows.{entries_in, row_by};
-ghost use Rattle.sql_tables.specs.Statements.{Keeps, LeavesStore, Ran};
+ghost use Rattle.sql_tables.specs.Statements.{Checks, GoesOn, Keeps, LeavesStore, Ran, WhileOpen};
 ghost use Rattle.journal_store.specs.Batches.{IsUnderWay, MakesRows, PutsRow, PutsRows, settled};
 ghost use Rattle.journal_store.specs.Connections.{Finds, HasNumbers, IsEditText, IsLaid, IsThere, Makes};
 
@@ -80,12 +80,8 @@ pub(crate) fn write_in<S: Alter>(
         → OnOk result
         (Ran sql.now (bound params.now) (settled (state S.Store tables.old.conn.now))
         (settled (state S.Store tables.new.conn.now))) }
-    ensures inside { HasCleanDisk (state S.Store tables.new.conn.now)
-        → OnOk result (IsTrue (state S.Store tables.new.conn.now).in_transaction) }
-    ensures left { HasCleanDisk (state S.Store tables.new.conn.now)
-        → LeavesStore (state S.Store tables.old.conn.now) (state S.Store tables.new.conn.now) }
-    ensures quiet { Survives (state S.Store tables.old.conn.now) (state S.Store tables.new.conn.now)
-        (λ _. ⊥) }
+    ensures goes_on { GoesOn (state S.Store tables.old.conn.now) (state S.Store tables.new.conn.now)
+        result }
 {
     match tables.execute(sql, params) {
         Ok(_) => Ok(()),
@@ -111,12 +107,8 @@ fn write_user_in<S: Alter>(
         (Ran sql.now (row_by (User user.now) confirmed id.now)
         (settled (state S.Store tables.old.conn.now))
         (settled (state S.Store tables.new.conn.now))) }
-    ensures inside { HasCleanDisk (state S.Store tables.new.conn.now)
-        → OnOk result (IsTrue (state S.Store tables.new.conn.now).in_transaction) }
-    ensures left { HasCleanDisk (state S.Store tables.new.conn.now)
-        → LeavesStore (state S.Store tables.old.conn.now) (state S.Store tables.new.conn.now) }
-    ensures quiet { Survives (state S.Store tables.old.conn.now) (state S.Store tables.new.conn.now)
-        (λ _. ⊥) }
+    ensures goes_on { GoesOn (state S.Store tables.old.conn.now) (state S.Store tables.new.conn.now)
+        result }
 {
     let revision = user.revision();
     let key = user.login().key(alloc)?;
@@ -142,12 +134,8 @@ fn write_group_in<S: Alter>(
         (Ran sql.now (row_by (Group group.now) confirmed id.now)
         (settled (state S.Store tables.old.conn.now))
         (settled (state S.Store tables.new.conn.now))) }
-    ensures inside { HasCleanDisk (state S.Store tables.new.conn.now)
-        → OnOk result (IsTrue (state S.Store tables.new.conn.now).in_transaction) }
-    ensures left { HasCleanDisk (state S.Store tables.new.conn.now)
-        → LeavesStore (state S.Store tables.old.conn.now) (state S.Store tables.new.conn.now) }
-    ensures quiet { Survives (state S.Store tables.old.conn.now) (state S.Store tables.new.conn.now)
-        (λ _. ⊥) }
+    ensures goes_on { GoesOn (state S.Store tables.old.conn.now) (state S.Store tables.new.conn.now)
+        result }
 {
     let revision = group.revision();
     let key = group.name().key(alloc)?;
@@ -178,12 +166,8 @@ fn put_entry_in<S: Alter>(
         (Makes is_there (record { row = row.now; confirmed = confirmed; id = id.now })
         (settled (state S.Store tables.old.conn.now))
         (settled (state S.Store tables.new.conn.now))) }
-    ensures inside { HasCleanDisk (state S.Store tables.new.conn.now)
-        → OnOk result (IsTrue (state S.Store tables.new.conn.now).in_transaction) }
-    ensures left { HasCleanDisk (state S.Store tables.new.conn.now)
-        → LeavesStore (state S.Store tables.old.conn.now) (state S.Store tables.new.conn.now) }
-    ensures quiet { Survives (state S.Store tables.old.conn.now) (state S.Store tables.new.conn.now)
-        (λ _. ⊥) }
+    ensures goes_on { GoesOn (state S.Store tables.old.conn.now) (state S.Store tables.new.conn.now)
+        result }
 {
     let sql = put_statement(kind_of(row), is_there);
     match row {
@@ -207,13 +191,9 @@ fn put_in<S: Alter>(
         → OnOk result
         (PutsRow row.now (state S.Store tables.old.conn.now).now.trees
         (state S.Store tables.new.conn.now).now.trees) }
-    ensures open { HasCleanDisk (state S.Store tables.new.conn.now)
-        → OnOk result (IsTrue (state S.Store tables.new.conn.now).is_open) }
     ensures under_way { OnOk result (IsUnderWay (state S.Store tables.new.conn.now)) }
-    ensures left { HasCleanDisk (state S.Store tables.new.conn.now)
-        → LeavesStore (state S.Store tables.old.conn.now) (state S.Store tables.new.conn.now) }
-    ensures quiet { Survives (state S.Store tables.old.conn.now) (state S.Store tables.new.conn.now)
-        (λ _. ⊥) }
+    ensures goes_on { GoesOn (state S.Store tables.old.conn.now) (state S.Store tables.new.conn.now)
+        result }
 {
     let name = row.record_name(alloc)?;
     let held = find_in(alloc, tables, &name)?;
@@ -240,13 +220,9 @@ fn put_each<S: Alter>(
         → OnOk result
         (PutsRows rows.now (state S.Store tables.old.conn.now).now.trees
         (state S.Store tables.new.conn.now).now.trees) }
-    ensures open { HasCleanDisk (state S.Store tables.new.conn.now)
-        → OnOk result (IsTrue (state S.Store tables.new.conn.now).is_open) }
     ensures under_way { OnOk result (IsUnderWay (state S.Store tables.new.conn.now)) }
-    ensures left { HasCleanDisk (state S.Store tables.new.conn.now)
-        → LeavesStore (state S.Store tables.old.conn.now) (state S.Store tables.new.conn.now) }
-    ensures quiet { Survives (state S.Store tables.old.conn.now) (state S.Store tables.new.conn.now)
-        (λ _. ⊥) }
+    ensures goes_on { GoesOn (state S.Store tables.old.conn.now) (state S.Store tables.new.conn.now)
+        result }
 {
     check_open(tables)?;
     for row in rows {
@@ -263,8 +239,7 @@ pub(crate) fn put_all<S: Alter>(
     conn: &mut Connection<S>,
     rows: &[SourceRow],
 ) -> Result<(), TableFault>
-    requires laid { HasCleanDisk (state S.Store conn.old) → IsTrue (state S.Store conn.old).is_open
-        → IsLaid (state S.Store conn.old) }
+    requires laid { WhileOpen IsLaid (state S.Store conn.old) }
     requires numbers { HasCleanDisk (state S.Store conn.old)
         → IsTrue (state S.Store conn.old).is_open → HasNumbers (state S.Store conn.old).now.trees }
     requires lawful { HasCleanDisk (state S.Store conn.old)

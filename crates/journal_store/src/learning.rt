@@ -4,7 +4,7 @@ ghost use Rattle.sqlite.specs.Held.{state};
 ghost use Rattle.sqlite.specs.State.{HasCleanDisk, Survives};
 ghost use Rattle.sqlite.specs.Values.{bound};
 ghost use Rattle.journal_core.specs.Entries.{CanPutLearnt};
-ghost use Rattle.sql_tables.specs.Statements.{Keeps};
+ghost use Rattle.sql_tables.specs.Statements.{Keeps, WhileOpen};
 ghost use Rattle.journal_store.specs.Connections.{Commits, HasNumbers, IsLaid};
 ghost use Rattle.journal_store.specs.Learning.{Learns, learn_text, learnt_values};
 ghost use Rattle.journal_store.specs.Rows.{entries_in};
@@ -50,8 +50,7 @@ pub(crate) fn learn<S: Alter>(
     confirmed: Revision,
     id: &ResourceId,
 ) -> Result<(), TableFault>
-    requires laid { HasCleanDisk (state S.Store conn.old) → IsTrue (state S.Store conn.old).is_open
-        → IsLaid (state S.Store conn.old) }
+    requires laid { WhileOpen IsLaid (state S.Store conn.old) }
     requires numbers { HasCleanDisk (state S.Store conn.old)
         → IsTrue (state S.Store conn.old).is_open → HasNumbers (state S.Store conn.old).now.trees }
     requires lawful { HasCleanDisk (state S.Store conn.old)

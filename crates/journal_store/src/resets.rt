@@ -5,7 +5,7 @@ ghost use Rattle.sqlite.specs.Held.{state};
 ghost use Rattle.sqlite.specs.State.{HasCleanDisk, Survives};
 ghost use Rattle.sqlite.specs.Values.{bound};
 ghost use Rattle.scim_key.specs.declared.records.Kind.TheVariants.{Group, User};
-ghost use Rattle.sql_tables.specs.Statements.{Keeps, LeavesStore};
+ghost use Rattle.sql_tables.specs.Statements.{GoesOn, Keeps, WhileOpen};
 ghost use Rattle.journal_core.specs.Forgetting.{is_learnt};
 ghost use Rattle.journal_store.specs.Batches.{IsUnderWay, settled};
 ghost use Rattle.journal_store.specs.Connections.{Commits, IsLaid};
@@ -65,12 +65,8 @@ fn reset_in<S: Alter>(tables: &mut Transaction<'_, S>, kind: Kind) -> Result<(),
         → OnOk result
         (Commits (ResetsOne kind) (settled (state S.Store tables.old.conn.now))
         (settled (state S.Store tables.new.conn.now))) }
-    ensures inside { HasCleanDisk (state S.Store tables.new.conn.now)
-        → OnOk result (IsTrue (state S.Store tables.new.conn.now).in_transaction) }
-    ensures left { HasCleanDisk (state S.Store tables.new.conn.now)
-        → LeavesStore (state S.Store tables.old.conn.now) (state S.Store tables.new.conn.now) }
-    ensures quiet { Survives (state S.Store tables.old.conn.now) (state S.Store tables.new.conn.now)
-        (λ _. ⊥) }
+    ensures goes_on { GoesOn (state S.Store tables.old.conn.now) (state S.Store tables.new.conn.now)
+        result }
 {
     write_in(tables, reset_statement(kind), &none_params())
 }
@@ -86,13 +82,9 @@ fn reset_both<S: Alter>(tables: &mut Transaction<'_, S>) -> Result<(), TableFaul
         → OnOk result
         (ResetsAll (state S.Store tables.old.conn.now).now.trees
         (state S.Store tables.new.conn.now).now.trees) }
-    ensures open { HasCleanDisk (state S.Store tables.new.conn.now)
-        → OnOk result (IsTrue (state S.Store tables.new.conn.now).is_open) }
     ensures under_way { OnOk result (IsUnderWay (state S.Store tables.new.conn.now)) }
-    ensures left { HasCleanDisk (state S.Store tables.new.conn.now)
-        → LeavesStore (state S.Store tables.old.conn.now) (state S.Store tables.new.conn.now) }
-    ensures quiet { Survives (state S.Store tables.old.conn.now) (state S.Store tables.new.conn.now)
-        (λ _. ⊥) }
+    ensures goes_on { GoesOn (state S.Store tables.old.conn.now) (state S.Store tables.new.conn.now)
+        result }
 {
     reset_in(tables, Kind::User)?;
     reset_in(tables, Kind::Group)
@@ -102,8 +94,7 @@ fn reset_both<S: Alter>(tables: &mut Transaction<'_, S>) -> Result<(), TableFaul
 
 /// Resets the entries by one transaction: all or none.
 pub(crate) fn reset_all<S: Alter>(conn: &mut Connection<S>) -> Result<(), TableFault>
-    requires laid { HasCleanDisk (state S.Store conn.old) → IsTrue (state S.Store conn.old).is_open
-        → IsLaid (state S.Store conn.old) }
+    requires laid { WhileOpen IsLaid (state S.Store conn.old) }
     requires listed { HasCleanDisk (state S.Store conn.old)
         → IsTrue (state S.Store conn.old).is_open → AreListed (state S.Store conn.old).now.trees }
     ensures made { HasCleanDisk (state S.Store conn.new)

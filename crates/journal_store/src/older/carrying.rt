@@ -7,7 +7,7 @@ ghost use Rattle.scim_key.specs.declared.records.Kind.{Kind as KindData};
 ghost use Rattle.scim_key.specs.declared.records.Kind.TheVariants.{User};
 ghost use Rattle.journal_core.specs.Entries.{EntryMap};
 ghost use Rattle.sql_tables.specs.Layouts.{IsBlank};
-ghost use Rattle.sql_tables.specs.Statements.{LeavesStore};
+ghost use Rattle.sql_tables.specs.Statements.{GoesOn, LeavesStore};
 ghost use Rattle.journal_store.specs.Batches.{settled};
 ghost use Rattle.journal_store.specs.Older.Format.{first_tree, second_tree};
 ghost use Rattle.journal_store.specs.Opening.{AreEmptied, IsFirstStore, IsSecondStore, IsStore, IsStoreBy, LeavesCarriedBy};
@@ -32,14 +32,8 @@ pub(crate) fn make_first<S: Alter>(tables: &mut Transaction<'_, S>) -> Result<()
     ensures same_reference { tables.new.conn.ghost_name ≡ tables.old.conn.ghost_name }
     ensures made { HasCleanDisk (state S.Store tables.new.conn.now)
         → OnOk result (IsFirstStore (settled (state S.Store tables.new.conn.now)) empty) }
-    ensures open { HasCleanDisk (state S.Store tables.new.conn.now)
-        → OnOk result (IsTrue (state S.Store tables.new.conn.now).is_open) }
-    ensures inside { HasCleanDisk (state S.Store tables.new.conn.now)
-        → OnOk result (IsTrue (state S.Store tables.new.conn.now).in_transaction) }
-    ensures left { HasCleanDisk (state S.Store tables.new.conn.now)
-        → LeavesStore (state S.Store tables.old.conn.now) (state S.Store tables.new.conn.now) }
-    ensures quiet { Survives (state S.Store tables.old.conn.now) (state S.Store tables.new.conn.now)
-        (λ _. ⊥) }
+    ensures goes_on { GoesOn (state S.Store tables.old.conn.now) (state S.Store tables.new.conn.now)
+        result }
 {
     tables.execute(
         "CREATE TABLE IF NOT EXISTS journal_format (one INTEGER PRIMARY KEY CHECK (one = 1), number INTEGER NOT NULL)",
@@ -88,14 +82,8 @@ fn carry_first<S: Alter>(tables: &mut Transaction<'_, S>) -> Result<(), Error>
         → IsSecondStore (settled (state S.Store tables.new.conn.now)) entries) }
     ensures emptied { HasCleanDisk (state S.Store tables.new.conn.now)
         → OnOk result ((state S.Store tables.new.conn.now).now.trees (first_tree User) ≡ []) }
-    ensures open { HasCleanDisk (state S.Store tables.new.conn.now)
-        → OnOk result (IsTrue (state S.Store tables.new.conn.now).is_open) }
-    ensures inside { HasCleanDisk (state S.Store tables.new.conn.now)
-        → OnOk result (IsTrue (state S.Store tables.new.conn.now).in_transaction) }
-    ensures left { HasCleanDisk (state S.Store tables.new.conn.now)
-        → LeavesStore (state S.Store tables.old.conn.now) (state S.Store tables.new.conn.now) }
-    ensures quiet { Survives (state S.Store tables.old.conn.now) (state S.Store tables.new.conn.now)
-        (λ _. ⊥) }
+    ensures goes_on { GoesOn (state S.Store tables.old.conn.now) (state S.Store tables.new.conn.now)
+        result }
 {
     tables.execute(
         "CREATE TABLE user_entry_2 (name_key TEXT PRIMARY KEY NOT NULL, login TEXT NOT NULL, revision INTEGER NOT NULL, number TEXT NOT NULL, given TEXT NOT NULL, family TEXT NOT NULL, mail TEXT NOT NULL, department TEXT NOT NULL, active INTEGER NOT NULL, confirmed INTEGER NOT NULL, id TEXT)",
@@ -130,14 +118,8 @@ fn carry_second<S: Alter>(tables: &mut Transaction<'_, S>) -> Result<(), Error>
     ensures firsts { HasCleanDisk (state S.Store tables.new.conn.now)
         → OnOk result ((state S.Store tables.new.conn.now).now.trees (first_tree User)
         ≡ (state S.Store tables.old.conn.now).now.trees (first_tree User)) }
-    ensures open { HasCleanDisk (state S.Store tables.new.conn.now)
-        → OnOk result (IsTrue (state S.Store tables.new.conn.now).is_open) }
-    ensures inside { HasCleanDisk (state S.Store tables.new.conn.now)
-        → OnOk result (IsTrue (state S.Store tables.new.conn.now).in_transaction) }
-    ensures left { HasCleanDisk (state S.Store tables.new.conn.now)
-        → LeavesStore (state S.Store tables.old.conn.now) (state S.Store tables.new.conn.now) }
-    ensures quiet { Survives (state S.Store tables.old.conn.now) (state S.Store tables.new.conn.now)
-        (λ _. ⊥) }
+    ensures goes_on { GoesOn (state S.Store tables.old.conn.now) (state S.Store tables.new.conn.now)
+        result }
 {
     make_entries(tables)?;
     move_all(tables, Moved::SecondUsers)?;
@@ -169,14 +151,8 @@ pub(crate) trait Older: Format {
         ensures emptied { HasCleanDisk (state S.Store tables.new.conn.now)
             → OnOk result
             (AreEmptied Self.Format (state S.Store tables.new.conn.now).now.trees) }
-        ensures open { HasCleanDisk (state S.Store tables.new.conn.now)
-            → OnOk result (IsTrue (state S.Store tables.new.conn.now).is_open) }
-        ensures inside { HasCleanDisk (state S.Store tables.new.conn.now)
-            → OnOk result (IsTrue (state S.Store tables.new.conn.now).in_transaction) }
-        ensures left { HasCleanDisk (state S.Store tables.new.conn.now)
-            → LeavesStore (state S.Store tables.old.conn.now) (state S.Store tables.new.conn.now) }
-        ensures quiet { Survives (state S.Store tables.old.conn.now)
-            (state S.Store tables.new.conn.now) (λ _. ⊥) };
+        ensures goes_on { GoesOn (state S.Store tables.old.conn.now) (state S.Store tables.new.conn.now)
+        result };
 }
 
 impl Older for Second {

@@ -3,7 +3,7 @@ ghost use Rattle.std.specs.Prelude.{◌≡◌, [], IsTrue, OnOk};
 ghost use Rattle.std.specs.FinMap.{empty};
 ghost use Rattle.sqlite.specs.Held.{state};
 ghost use Rattle.sqlite.specs.State.{HasCleanDisk, Survives};
-ghost use Rattle.sql_tables.specs.Statements.{LeavesStore};
+ghost use Rattle.sql_tables.specs.Statements.{GoesOn, LeavesStore};
 ghost use Rattle.journal_store.specs.Older.Carrying.{CanMove, Moves, MovesAll};
 ghost use Rattle.journal_store.specs.Older.Format.{copy_part_text, copy_text, empty_part_text, empty_text};
 
@@ -96,14 +96,8 @@ fn move_part<S: Alter>(
     ensures moved { HasCleanDisk (state S.Store tables.new.conn.now)
         → OnOk result
         (Moves table (state S.Store tables.old.conn.now) (state S.Store tables.new.conn.now)) }
-    ensures open { HasCleanDisk (state S.Store tables.new.conn.now)
-        → OnOk result (IsTrue (state S.Store tables.new.conn.now).is_open) }
-    ensures inside { HasCleanDisk (state S.Store tables.new.conn.now)
-        → OnOk result (IsTrue (state S.Store tables.new.conn.now).in_transaction) }
-    ensures left { HasCleanDisk (state S.Store tables.new.conn.now)
-        → LeavesStore (state S.Store tables.old.conn.now) (state S.Store tables.new.conn.now) }
-    ensures quiet { Survives (state S.Store tables.old.conn.now) (state S.Store tables.new.conn.now)
-        (λ _. ⊥) }
+    ensures goes_on { GoesOn (state S.Store tables.old.conn.now) (state S.Store tables.new.conn.now)
+        result }
 {
     let last = [ValueRef::Int(i64::from(last))];
     let count = tables.execute(copy_part_statement(table), &last)?;
@@ -150,14 +144,8 @@ fn move_rest<S: Alter>(tables: &mut Transaction<'_, S>, table: Moved) -> Result<
     ensures moved { HasCleanDisk (state S.Store tables.new.conn.now)
         → OnOk result
         (MovesAll table (state S.Store tables.old.conn.now) (state S.Store tables.new.conn.now)) }
-    ensures open { HasCleanDisk (state S.Store tables.new.conn.now)
-        → OnOk result (IsTrue (state S.Store tables.new.conn.now).is_open) }
-    ensures inside { HasCleanDisk (state S.Store tables.new.conn.now)
-        → OnOk result (IsTrue (state S.Store tables.new.conn.now).in_transaction) }
-    ensures left { HasCleanDisk (state S.Store tables.new.conn.now)
-        → LeavesStore (state S.Store tables.old.conn.now) (state S.Store tables.new.conn.now) }
-    ensures quiet { Survives (state S.Store tables.old.conn.now) (state S.Store tables.new.conn.now)
-        (λ _. ⊥) }
+    ensures goes_on { GoesOn (state S.Store tables.old.conn.now) (state S.Store tables.new.conn.now)
+        result }
 {
     tables.execute(copy_statement(table), &[])?;
     tables.execute(empty_statement(table), &[])?;
@@ -175,14 +163,8 @@ pub(crate) fn move_all<S: Alter>(tables: &mut Transaction<'_, S>, table: Moved) 
     ensures moved { HasCleanDisk (state S.Store tables.new.conn.now)
         → OnOk result
         (MovesAll table (state S.Store tables.old.conn.now) (state S.Store tables.new.conn.now)) }
-    ensures open { HasCleanDisk (state S.Store tables.new.conn.now)
-        → OnOk result (IsTrue (state S.Store tables.new.conn.now).is_open) }
-    ensures inside { HasCleanDisk (state S.Store tables.new.conn.now)
-        → OnOk result (IsTrue (state S.Store tables.new.conn.now).in_transaction) }
-    ensures left { HasCleanDisk (state S.Store tables.new.conn.now)
-        → LeavesStore (state S.Store tables.old.conn.now) (state S.Store tables.new.conn.now) }
-    ensures quiet { Survives (state S.Store tables.old.conn.now) (state S.Store tables.new.conn.now)
-        (λ _. ⊥) }
+    ensures goes_on { GoesOn (state S.Store tables.old.conn.now) (state S.Store tables.new.conn.now)
+        result }
 {
     move_parts(tables, table)?;
     move_rest(tables, table)
