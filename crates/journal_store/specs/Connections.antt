@@ -32,10 +32,6 @@ use Rattle.journal_store.specs.Rows.{IsLawfulId, IsReadable, confirmed_in, entry
 abbrev pub IsLaid : State → Type 0
 IsLaid = IsLaidBy journal_schema
 
--- the rows of the entries of one type
-abbrev pub table_in : Kind → State → List Row
-table_in kind s = s.now.trees (entry_tree kind)
-
 -- ---- entries
 
 -- the row of a query shows this valid row of the source

@@ -157,9 +157,8 @@ fn put_entry_in<S: Alter>(
     id: &Option<ResourceId>,
 ) -> Result<(), TableFault>
     requires under_way { IsUnderWay (state S.Store tables.old.conn.now) }
-    requires there { HasCleanDisk (state S.Store tables.old.conn.now)
-        → IsTrue (state S.Store tables.old.conn.now).is_open → is_there ≡ true
-        → IsThere (state S.Store tables.old.conn.now).now.trees (row_name row.now) }
+    requires there { WhileOpen (λ s. is_there ≡ true → IsThere s.now.trees (row_name row.now))
+        (state S.Store tables.old.conn.now) }
     ensures same_reference { tables.new.conn.ghost_name ≡ tables.old.conn.ghost_name }
     ensures made { HasCleanDisk (state S.Store tables.new.conn.now)
         → OnOk result
@@ -183,9 +182,7 @@ fn put_in<S: Alter>(
     row: &SourceRow,
 ) -> Result<(), TableFault>
     requires under_way { IsUnderWay (state S.Store tables.old.conn.now) }
-    requires numbers { HasCleanDisk (state S.Store tables.old.conn.now)
-        → IsTrue (state S.Store tables.old.conn.now).is_open
-        → HasNumbers (state S.Store tables.old.conn.now).now.trees }
+    requires numbers { WhileOpen (λ s. HasNumbers s.now.trees) (state S.Store tables.old.conn.now) }
     ensures same_reference { tables.new.conn.ghost_name ≡ tables.old.conn.ghost_name }
     ensures put { HasCleanDisk (state S.Store tables.new.conn.now)
         → OnOk result
@@ -209,12 +206,9 @@ fn put_each<S: Alter>(
     rows: &[SourceRow],
 ) -> Result<(), TableFault>
     requires under_way { IsUnderWay (state S.Store tables.old.conn.now) }
-    requires numbers { HasCleanDisk (state S.Store tables.old.conn.now)
-        → IsTrue (state S.Store tables.old.conn.now).is_open
-        → HasNumbers (state S.Store tables.old.conn.now).now.trees }
-    requires lawful { HasCleanDisk (state S.Store tables.old.conn.now)
-        → IsTrue (state S.Store tables.old.conn.now).is_open
-        → CanPutRows (entries_in (state S.Store tables.old.conn.now).now.trees) rows.now }
+    requires numbers { WhileOpen (λ s. HasNumbers s.now.trees) (state S.Store tables.old.conn.now) }
+    requires lawful { WhileOpen (λ s. CanPutRows (entries_in s.now.trees) rows.now)
+        (state S.Store tables.old.conn.now) }
     ensures same_reference { tables.new.conn.ghost_name ≡ tables.old.conn.ghost_name }
     ensures put { HasCleanDisk (state S.Store tables.new.conn.now)
         → OnOk result
@@ -240,11 +234,9 @@ pub(crate) fn put_all<S: Alter>(
     rows: &[SourceRow],
 ) -> Result<(), TableFault>
     requires laid { WhileOpen IsLaid (state S.Store conn.old) }
-    requires numbers { HasCleanDisk (state S.Store conn.old)
-        → IsTrue (state S.Store conn.old).is_open → HasNumbers (state S.Store conn.old).now.trees }
-    requires lawful { HasCleanDisk (state S.Store conn.old)
-        → IsTrue (state S.Store conn.old).is_open
-        → CanPutRows (entries_in (state S.Store conn.old).now.trees) rows.now }
+    requires numbers { WhileOpen (λ s. HasNumbers s.now.trees) (state S.Store conn.old) }
+    requires lawful { WhileOpen (λ s. CanPutRows (entries_in s.now.trees) rows.now)
+        (state S.Store conn.old) }
     ensures made { HasCleanDisk (state S.Store conn.new)
         → OnOk result (MakesRows rows.now (state S.Store conn.old) (state S.Store conn.new)) }
     ensures keeps { HasCleanDisk (state S.Store conn.new)

@@ -51,11 +51,9 @@ pub(crate) fn learn<S: Alter>(
     id: &ResourceId,
 ) -> Result<(), TableFault>
     requires laid { WhileOpen IsLaid (state S.Store conn.old) }
-    requires numbers { HasCleanDisk (state S.Store conn.old)
-        → IsTrue (state S.Store conn.old).is_open → HasNumbers (state S.Store conn.old).now.trees }
-    requires lawful { HasCleanDisk (state S.Store conn.old)
-        → IsTrue (state S.Store conn.old).is_open
-        → CanPutLearnt (entries_in (state S.Store conn.old).now.trees) name.now confirmed }
+    requires numbers { WhileOpen (λ s. HasNumbers s.now.trees) (state S.Store conn.old) }
+    requires lawful { WhileOpen (λ s. CanPutLearnt (entries_in s.now.trees) name.now confirmed)
+        (state S.Store conn.old) }
     ensures made { HasCleanDisk (state S.Store conn.new)
         → OnOk result
         (Commits (Learns name.now confirmed id.now) (state S.Store conn.old)

@@ -16,9 +16,7 @@ use sqlite::{Alter, Connection, Error, Transaction};
 pub(crate) fn make_entries<S: Alter>(tables: &mut Transaction<'_, S>) -> Result<(), Error>
     requires inside { HasCleanDisk (state S.Store tables.old.conn.now)
         → IsTrue (state S.Store tables.old.conn.now).in_transaction }
-    requires second { HasCleanDisk (state S.Store tables.old.conn.now)
-        → IsTrue (state S.Store tables.old.conn.now).is_open
-        → IsSecond (state S.Store tables.old.conn.now).now.schema }
+    requires second { WhileOpen (λ s. IsSecond s.now.schema) (state S.Store tables.old.conn.now) }
     ensures same_reference { tables.new.conn.ghost_name ≡ tables.old.conn.ghost_name }
     ensures made { HasCleanDisk (state S.Store tables.new.conn.now)
         → OnOk result

@@ -101,8 +101,8 @@ fn mark_of<S: Alter, F: Marked>(
 /// those of its format.
 fn number_fault<S: Alter, F: Format>(conn: &mut Connection<S>) -> JournalOpenFault
     requires laid { WhileOpen (IsLaidBy F.layout) (state S.Store conn.old) }
-    requires above { HasCleanDisk (state S.Store conn.old) → IsTrue (state S.Store conn.old).is_open
-        → (number : ℕ) × (F.number < number) × IsFormat (state S.Store conn.old) number }
+    requires above { WhileOpen (λ s. (number : ℕ) × (F.number < number) × IsFormat s number)
+        (state S.Store conn.old) }
     ensures cause { HasCleanDisk (state S.Store conn.new)
         → IsFor (IsTrue (state S.Store conn.new).is_open
         × IsNewer (state S.Store conn.old)) (IsTrue (state S.Store conn.new).is_open
@@ -313,10 +313,7 @@ fn refuse_foreign<S: Alter>(conn: &mut Connection<S>) -> Result<(), JournalOpenF
         (IsFor (IsNewer (state S.Store conn.old))
         (HasFormatTable (state S.Store conn.old).now.schema → IsNewer (state S.Store conn.old)
         → ⊥)) }
-    ensures failed { HasCleanDisk (state S.Store conn.new)
-        → IfErr result
-        (OpenFailsFor (HasFailed (state S.Store conn.old) (state S.Store conn.new))) }
-    ensures looks { Looks (state S.Store conn.old) (state S.Store conn.new) }
+    ensures checks { Checks OpenFailsFor (state S.Store conn.old) (state S.Store conn.new) result }
     ensures left { HasCleanDisk (state S.Store conn.new)
         → LeavesStore (state S.Store conn.old) (state S.Store conn.new) }
 {

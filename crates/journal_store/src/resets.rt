@@ -57,9 +57,8 @@ fn none_params() -> [ValueRef<'static>; 2]
 /// Resets the entries of one type.
 fn reset_in<S: Alter>(tables: &mut Transaction<'_, S>, kind: Kind) -> Result<(), TableFault>
     requires under_way { IsUnderWay (state S.Store tables.old.conn.now) }
-    requires listed { HasCleanDisk (state S.Store tables.old.conn.now)
-        → IsTrue (state S.Store tables.old.conn.now).is_open
-        → IsListed kind (state S.Store tables.old.conn.now).now.trees }
+    requires listed { WhileOpen (λ s. IsListed kind s.now.trees)
+        (state S.Store tables.old.conn.now) }
     ensures same_reference { tables.new.conn.ghost_name ≡ tables.old.conn.ghost_name }
     ensures made { HasCleanDisk (state S.Store tables.new.conn.now)
         → OnOk result
@@ -74,9 +73,7 @@ fn reset_in<S: Alter>(tables: &mut Transaction<'_, S>, kind: Kind) -> Result<(),
 /// Resets the entries of both types.
 fn reset_both<S: Alter>(tables: &mut Transaction<'_, S>) -> Result<(), TableFault>
     requires under_way { IsUnderWay (state S.Store tables.old.conn.now) }
-    requires listed { HasCleanDisk (state S.Store tables.old.conn.now)
-        → IsTrue (state S.Store tables.old.conn.now).is_open
-        → AreListed (state S.Store tables.old.conn.now).now.trees }
+    requires listed { WhileOpen (λ s. AreListed s.now.trees) (state S.Store tables.old.conn.now) }
     ensures same_reference { tables.new.conn.ghost_name ≡ tables.old.conn.ghost_name }
     ensures reset { HasCleanDisk (state S.Store tables.new.conn.now)
         → OnOk result
@@ -95,8 +92,7 @@ fn reset_both<S: Alter>(tables: &mut Transaction<'_, S>) -> Result<(), TableFaul
 /// Resets the entries by one transaction: all or none.
 pub(crate) fn reset_all<S: Alter>(conn: &mut Connection<S>) -> Result<(), TableFault>
     requires laid { WhileOpen IsLaid (state S.Store conn.old) }
-    requires listed { HasCleanDisk (state S.Store conn.old)
-        → IsTrue (state S.Store conn.old).is_open → AreListed (state S.Store conn.old).now.trees }
+    requires listed { WhileOpen (λ s. AreListed s.now.trees) (state S.Store conn.old) }
     ensures made { HasCleanDisk (state S.Store conn.new)
         → OnOk result (Commits ResetsAll (state S.Store conn.old) (state S.Store conn.new)) }
     ensures keeps { HasCleanDisk (state S.Store conn.new)

@@ -7,7 +7,7 @@ ghost use Rattle.scim_key.specs.declared.records.Kind.{Kind as KindData};
 ghost use Rattle.scim_key.specs.declared.records.Kind.TheVariants.{User};
 ghost use Rattle.journal_core.specs.Entries.{EntryMap};
 ghost use Rattle.sql_tables.specs.Layouts.{IsBlank};
-ghost use Rattle.sql_tables.specs.Statements.{GoesOn, LeavesStore};
+ghost use Rattle.sql_tables.specs.Statements.{GoesOn, LeavesStore, WhileOpen};
 ghost use Rattle.journal_store.specs.Batches.{settled};
 ghost use Rattle.journal_store.specs.Older.Format.{first_tree, second_tree};
 ghost use Rattle.journal_store.specs.Opening.{AreEmptied, IsFirstStore, IsSecondStore, IsStore, IsStoreBy, LeavesCarriedBy};
@@ -26,9 +26,7 @@ use sqlite_value::value::ValueRef;
 pub(crate) fn make_first<S: Alter>(tables: &mut Transaction<'_, S>) -> Result<(), Error>
     requires inside { HasCleanDisk (state S.Store tables.old.conn.now)
         → IsTrue (state S.Store tables.old.conn.now).in_transaction }
-    requires blank { HasCleanDisk (state S.Store tables.old.conn.now)
-        → IsTrue (state S.Store tables.old.conn.now).is_open
-        → IsBlank (settled (state S.Store tables.old.conn.now)) }
+    requires blank { WhileOpen (λ s. IsBlank (settled s)) (state S.Store tables.old.conn.now) }
     ensures same_reference { tables.new.conn.ghost_name ≡ tables.old.conn.ghost_name }
     ensures made { HasCleanDisk (state S.Store tables.new.conn.now)
         → OnOk result (IsFirstStore (settled (state S.Store tables.new.conn.now)) empty) }
@@ -72,9 +70,8 @@ fn one_changed(count: usize) -> Result<(), Error>
 fn carry_first<S: Alter>(tables: &mut Transaction<'_, S>) -> Result<(), Error>
     requires inside { HasCleanDisk (state S.Store tables.old.conn.now)
         → IsTrue (state S.Store tables.old.conn.now).in_transaction }
-    requires first { HasCleanDisk (state S.Store tables.old.conn.now)
-        → IsTrue (state S.Store tables.old.conn.now).is_open → (entries : EntryMap)
-        × IsFirstStore (settled (state S.Store tables.old.conn.now)) entries }
+    requires first { WhileOpen (λ s. (entries : EntryMap) × IsFirstStore (settled s) entries)
+        (state S.Store tables.old.conn.now) }
     ensures same_reference { tables.new.conn.ghost_name ≡ tables.old.conn.ghost_name }
     ensures carried { HasCleanDisk (state S.Store tables.new.conn.now)
         → OnOk result ((entries : EntryMap)
@@ -104,9 +101,8 @@ fn carry_first<S: Alter>(tables: &mut Transaction<'_, S>) -> Result<(), Error>
 fn carry_second<S: Alter>(tables: &mut Transaction<'_, S>) -> Result<(), Error>
     requires inside { HasCleanDisk (state S.Store tables.old.conn.now)
         → IsTrue (state S.Store tables.old.conn.now).in_transaction }
-    requires second { HasCleanDisk (state S.Store tables.old.conn.now)
-        → IsTrue (state S.Store tables.old.conn.now).is_open → (entries : EntryMap)
-        × IsSecondStore (settled (state S.Store tables.old.conn.now)) entries }
+    requires second { WhileOpen (λ s. (entries : EntryMap) × IsSecondStore (settled s) entries)
+        (state S.Store tables.old.conn.now) }
     ensures same_reference { tables.new.conn.ghost_name ≡ tables.old.conn.ghost_name }
     ensures carried { HasCleanDisk (state S.Store tables.new.conn.now)
         → OnOk result ((entries : EntryMap)
@@ -140,9 +136,8 @@ pub(crate) trait Older: Format {
     fn carry_over<S: Alter>(tables: &mut Transaction<'_, S>) -> Result<(), Error>
         requires inside { HasCleanDisk (state S.Store tables.old.conn.now)
             → IsTrue (state S.Store tables.old.conn.now).in_transaction }
-        requires older { HasCleanDisk (state S.Store tables.old.conn.now)
-            → IsTrue (state S.Store tables.old.conn.now).is_open → (entries : EntryMap)
-            × IsStoreBy Self.Format (settled (state S.Store tables.old.conn.now)) entries }
+        requires older { WhileOpen (λ s. (entries : EntryMap)
+            × IsStoreBy Self.Format (settled s) entries) (state S.Store tables.old.conn.now) }
         ensures same_reference { tables.new.conn.ghost_name ≡ tables.old.conn.ghost_name }
         ensures carried { HasCleanDisk (state S.Store tables.new.conn.now)
             → OnOk result ((entries : EntryMap)
@@ -173,8 +168,8 @@ impl Older for First {
 /// Carries a journal of an older format over by one transaction: all of it or none.
 pub(crate) fn carry<S: Alter, F: Older>(conn: &mut Connection<S>) -> Result<(), Error>
     requires outside { (state S.Store conn.old).in_transaction ≡ false }
-    requires older { HasCleanDisk (state S.Store conn.old) → IsTrue (state S.Store conn.old).is_open
-        → (entries : EntryMap) × IsStoreBy F.Format (state S.Store conn.old) entries }
+    requires older { WhileOpen (λ s. (entries : EntryMap) × IsStoreBy F.Format s entries)
+        (state S.Store conn.old) }
     ensures made { HasCleanDisk (state S.Store conn.new)
         → OnOk result (IsTrue (state S.Store conn.new).is_open
         × ((entries : EntryMap) → IsStoreBy F.Format (state S.Store conn.old) entries

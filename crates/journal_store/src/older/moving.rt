@@ -3,7 +3,7 @@ ghost use Rattle.std.specs.Prelude.{◌≡◌, [], IsTrue, OnOk};
 ghost use Rattle.std.specs.FinMap.{empty};
 ghost use Rattle.sqlite.specs.Held.{state};
 ghost use Rattle.sqlite.specs.State.{HasCleanDisk, Survives};
-ghost use Rattle.sql_tables.specs.Statements.{GoesOn, LeavesStore};
+ghost use Rattle.sql_tables.specs.Statements.{GoesOn, LeavesStore, WhileOpen};
 ghost use Rattle.journal_store.specs.Older.Carrying.{CanMove, Moves, MovesAll};
 ghost use Rattle.journal_store.specs.Older.Format.{copy_part_text, copy_text, empty_part_text, empty_text};
 
@@ -89,9 +89,7 @@ fn move_part<S: Alter>(
 ) -> Result<usize, Error>
     requires inside { HasCleanDisk (state S.Store tables.old.conn.now)
         → IsTrue (state S.Store tables.old.conn.now).in_transaction }
-    requires movable { HasCleanDisk (state S.Store tables.old.conn.now)
-        → IsTrue (state S.Store tables.old.conn.now).is_open
-        → CanMove table (state S.Store tables.old.conn.now) }
+    requires movable { WhileOpen (CanMove table) (state S.Store tables.old.conn.now) }
     ensures same_reference { tables.new.conn.ghost_name ≡ tables.old.conn.ghost_name }
     ensures moved { HasCleanDisk (state S.Store tables.new.conn.now)
         → OnOk result
@@ -110,9 +108,7 @@ fn move_part<S: Alter>(
 fn move_parts<S: Alter>(tables: &mut Transaction<'_, S>, table: Moved) -> Result<(), Error>
     requires inside { HasCleanDisk (state S.Store tables.old.conn.now)
         → IsTrue (state S.Store tables.old.conn.now).in_transaction }
-    requires movable { HasCleanDisk (state S.Store tables.old.conn.now)
-        → IsTrue (state S.Store tables.old.conn.now).is_open
-        → CanMove table (state S.Store tables.old.conn.now) }
+    requires movable { WhileOpen (CanMove table) (state S.Store tables.old.conn.now) }
     ensures same_reference { tables.new.conn.ghost_name ≡ tables.old.conn.ghost_name }
     ensures moved { HasCleanDisk (state S.Store tables.new.conn.now)
         → OnOk result (IsTrue (state S.Store tables.new.conn.now).is_open
@@ -137,9 +133,7 @@ fn move_parts<S: Alter>(tables: &mut Transaction<'_, S>, table: Moved) -> Result
 fn move_rest<S: Alter>(tables: &mut Transaction<'_, S>, table: Moved) -> Result<(), Error>
     requires inside { HasCleanDisk (state S.Store tables.old.conn.now)
         → IsTrue (state S.Store tables.old.conn.now).in_transaction }
-    requires movable { HasCleanDisk (state S.Store tables.old.conn.now)
-        → IsTrue (state S.Store tables.old.conn.now).is_open
-        → CanMove table (state S.Store tables.old.conn.now) }
+    requires movable { WhileOpen (CanMove table) (state S.Store tables.old.conn.now) }
     ensures same_reference { tables.new.conn.ghost_name ≡ tables.old.conn.ghost_name }
     ensures moved { HasCleanDisk (state S.Store tables.new.conn.now)
         → OnOk result
@@ -156,9 +150,7 @@ fn move_rest<S: Alter>(tables: &mut Transaction<'_, S>, table: Moved) -> Result<
 pub(crate) fn move_all<S: Alter>(tables: &mut Transaction<'_, S>, table: Moved) -> Result<(), Error>
     requires inside { HasCleanDisk (state S.Store tables.old.conn.now)
         → IsTrue (state S.Store tables.old.conn.now).in_transaction }
-    requires movable { HasCleanDisk (state S.Store tables.old.conn.now)
-        → IsTrue (state S.Store tables.old.conn.now).is_open
-        → CanMove table (state S.Store tables.old.conn.now) }
+    requires movable { WhileOpen (CanMove table) (state S.Store tables.old.conn.now) }
     ensures same_reference { tables.new.conn.ghost_name ≡ tables.old.conn.ghost_name }
     ensures moved { HasCleanDisk (state S.Store tables.new.conn.now)
         → OnOk result

@@ -33,9 +33,6 @@ returns-then-is_journal-clause-cause g c clean =
 pub returns-then-not-is_blank-clause-stands : goal.returns-then-not-is_blank-clause-stands
 returns-then-not-is_blank-clause-stands g c clean = on_ok c.refuse_foreign.result (λ none. absurd none) c.refuse_foreign.ensures.refused
 
-pub returns-then-not-is_blank-clause-open : goal.returns-then-not-is_blank-clause-open
-returns-then-not-is_blank-clause-open g c clean = on_ok c.refuse_foreign.result (λ none. absurd none) c.refuse_foreign.ensures.refused
-
 pub returns-then-not-is_blank-clause-cause : goal.returns-then-not-is_blank-clause-cause
 returns-then-not-is_blank-clause-cause g c clean =
     let stands : c.is_blank.result ≡ false = search (rules, tests) in
@@ -51,7 +48,7 @@ pub returns-then-not-is_blank-clause-failed : goal.returns-then-not-is_blank-cla
 returns-then-not-is_blank-clause-failed g c clean =
     let old = state g.S.Store c.args.conn.now in
     let new = state g.S.Store c.refuse_foreign.new.conn in
-    if_err c.refuse_foreign.result (opens_by (HasFailed old new) (OpeningFails old new) (λ it. inr (inr (inr it)))) (c.refuse_foreign.ensures.failed clean)
+    if_err c.refuse_foreign.result (opens_by (HasFailed old new) (OpeningFails old new) (λ it. inr (inr (inr it)))) (c.refuse_foreign.ensures.checks.failed clean)
 
 pub returns-in-Err-clause-cause : goal.returns-in-Err-clause-cause
 returns-in-Err-clause-cause g c clean =
