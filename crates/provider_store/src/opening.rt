@@ -254,8 +254,7 @@ fn page_end(after: u32, page: &[Stored], last: u32) -> u32
 /// looks up no name, because kind and key are unique in sound tables.
 fn check_pages<S: Alter>(alloc: Global, conn: &mut Connection<S>) -> Result<u32, RegistryOpenFault>
     requires laid { WhileOpen IsLaid (state S.Store conn.old) }
-    requires sound { HasCleanDisk (state S.Store conn.old) → IsTrue (state S.Store conn.old).is_open
-        → IsDatabase (state S.Store conn.old).now }
+    requires sound { WhileOpen (λ s. IsDatabase s.now) (state S.Store conn.old) }
     requires numbered { HasCleanDisk (state S.Store conn.old)
         → AreNumbered (resources (state S.Store conn.old)) }
     requires open { HasCleanDisk (state S.Store conn.old)
@@ -286,8 +285,7 @@ fn check_pages<S: Alter>(alloc: Global, conn: &mut Connection<S>) -> Result<u32,
 /// Checks the rows in order of their numbers, and returns how many follow each other from 1.
 fn check_rows<S: Alter>(alloc: Global, conn: &mut Connection<S>) -> Result<u32, RegistryOpenFault>
     requires laid { WhileOpen IsLaid (state S.Store conn.old) }
-    requires sound { HasCleanDisk (state S.Store conn.old) → IsTrue (state S.Store conn.old).is_open
-        → IsDatabase (state S.Store conn.old).now }
+    requires sound { WhileOpen (λ s. IsDatabase s.now) (state S.Store conn.old) }
     ensures lawful { HasCleanDisk (state S.Store conn.new)
         → IfOk result (AreLawfulTo (resources (state S.Store conn.old))) }
     ensures ends { HasCleanDisk (state S.Store conn.new)
@@ -348,8 +346,7 @@ fn none_in(rows: &[Row]) -> Result<(), RegistryOpenFault>
 /// Checks the format and each row, and returns how many rows there are.
 fn check_laid<S: Alter>(alloc: Global, conn: &mut Connection<S>) -> Result<u32, RegistryOpenFault>
     requires laid { WhileOpen IsLaid (state S.Store conn.old) }
-    requires sound { HasCleanDisk (state S.Store conn.old) → IsTrue (state S.Store conn.old).is_open
-        → IsDatabase (state S.Store conn.old).now }
+    requires sound { WhileOpen (λ s. IsDatabase s.now) (state S.Store conn.old) }
     ensures store { HasCleanDisk (state S.Store conn.new)
         → IfOk result (λ count. (rows : List StoredRecord) × IsStore (state S.Store conn.old) rows
         × (length rows ≡ count)) }

@@ -302,8 +302,7 @@ pub(crate) fn update_row<S: Alter>(
     row: &Stored,
 ) -> Result<(), RegistryFault>
     requires laid { WhileOpen IsLaid (state S.Store conn.old) }
-    requires there { HasCleanDisk (state S.Store conn.old) → IsTrue (state S.Store conn.old).is_open
-        → IsThere (resources (state S.Store conn.old)) row.now }
+    requires there { WhileOpen (λ s. IsThere (resources s) row.now) (state S.Store conn.old) }
     ensures made { HasCleanDisk (state S.Store conn.new)
         → OnOk result
         (Makes (state S.Store conn.old) (state S.Store conn.new) row.now

@@ -1,4 +1,4 @@
-use Rattle.std.proofs.Common.{◌≡◌, [], pos, filter, length, IsTrue, arith, sym, ◌∙◌, subst, inl, inr}
+use Rattle.std.proofs.Common.{◌≡◌, [], pos, filter, length, IsTrue, arith, sym, ◌∙◌, subst, inl, inr, rules}
 use Rattle.sqlite_trees.specs.Tree.{has_rowid}
 use Rattle.sqlite.specs.Held.{state}
 use Rattle.sqlite.specs.State.{HasCleanDisk}
@@ -7,7 +7,7 @@ use Rattle.provider_store.specs.Opening.{IsNewer, IsSpoilt, IsUnmarked}
 use Rattle.provider_store.specs.Lawful.{AreAllLawful, AreLawfulTo, AreWithin, EndsAt, IsFirstWrong, IsOutside}
 use Rattle.provider_store.proofs.Refusing.{spoilt_by}
 use Rattle.sql_tables.proofs.Looking.{one_of_laid}
-use Rattle.provider_store.proofs.Checking.{both_of, damage_of, same_rows, first_all, first_of}
+use Rattle.provider_store.proofs.Checking.{both_of, damage_of, first_all, first_of, opens_by, same_rows}
 use Rattle.provider_store.proofs.Checking.{opens_of, sound_on}
 use Rattle.sql_tables.proofs.Looking.{laid_on, was_laid, looks_then}
 use Rattle.sql_tables.specs.Faults.{HasFailed}
@@ -104,7 +104,7 @@ returns-in_err-count-clause-checks g c =
     let same = c.from_residual-in_err-count.ensures.1 in
     let err = c.in_err-count.ensures in
     checks_since _ _ _ result opens_by c.in_ok-check_format.ensures.checks.looks
-    (checks_err _ _ _ c.in_err-count.field-0.0 result same (opens_of failure failure (λ it. it) result c.in_err-count.field-0.0 same) (record { failed = err.failed; is_open = λ _. tt; looks = err.looks }))
+    (record { failed = λ clean. opens_of failure failure (λ it. it) result c.in_err-count.field-0.0 same (err.failed clean); is_open = search rules; looks = err.looks })
 
 pub returns-in_err-check_rest-clause-checks : goal.returns-in_err-check_rest-clause-checks
 returns-in_err-check_rest-clause-checks g c =

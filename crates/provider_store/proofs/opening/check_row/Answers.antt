@@ -7,7 +7,7 @@ use Rattle.provider_store.specs.Connections.{FindsNumber, resources}
 use Rattle.provider_store.specs.Lawful.{has_name, NoneNamed, IsWrong}
 use Rattle.provider_store.proofs.Finding.{has_named}
 use Rattle.provider_store.proofs.Refusing.{numbered_there, lawful_alone, told_number, wrong_shared, wrong_damaged}
-use Rattle.provider_store.proofs.Checking.{damage_of, same_rows}
+use Rattle.provider_store.proofs.Checking.{damage_of, opens_by, same_rows}
 use Rattle.provider_store.proofs.Checking.{fails_of, opens_of}
 use Rattle.sql_tables.specs.Faults.{HasFailed}
 use Rattle.sql_tables.proofs.Checking.{checks_err, checks_since}
