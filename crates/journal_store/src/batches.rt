@@ -1,5 +1,5 @@
 //! Puts rows by one transaction, all of them or none.
-ghost use Rattle.std.specs.Prelude.{◌≡◌, true, IfOk, IsTrue, OnErr, OnOk};
+ghost use Rattle.std.specs.Prelude.{◌≡◌, true, IfOk, OnOk};
 ghost use Rattle.sqlite.specs.Held.{state};
 ghost use Rattle.sqlite.specs.State.{HasCleanDisk, IsUnchanged, Survives};
 ghost use Rattle.sqlite.specs.Values.{bound};
@@ -8,9 +8,9 @@ ghost use Rattle.source_csv.specs.Rows.{IsGroupRow, IsUserRow};
 ghost use Rattle.source_csv.specs.declared.rows.Row.TheVariants.{User, Group};
 ghost use Rattle.journal_core.specs.Entries.{CanPutRows};
 ghost use Rattle.journal_store.specs.Rows.{entries_in, row_by};
-ghost use Rattle.sql_tables.specs.Statements.{Checks, GoesOn, Keeps, LeavesStore, Ran, WhileOpen};
-ghost use Rattle.journal_store.specs.Batches.{IsUnderWay, MakesRows, PutsRow, PutsRows, settled};
-ghost use Rattle.journal_store.specs.Connections.{Finds, HasNumbers, IsEditText, IsLaid, IsThere, Makes};
+ghost use Rattle.sql_tables.specs.Statements.{Checks, GoesOn, LeavesStore, Ran, WhileOpen};
+ghost use Rattle.journal_store.specs.Batches.{IsUnderWay, PutsRow, PutsRows, settled};
+ghost use Rattle.journal_store.specs.Connections.{ChangesOnce, Finds, HasNumbers, IsEditText, IsLaid, IsThere, Makes};
 
 use crate::statements::TableFault;
 use crate::tables::{
@@ -237,13 +237,8 @@ pub(crate) fn put_all<S: Alter>(
     requires numbers { WhileOpen (λ s. HasNumbers s.now.trees) (state S.Store conn.old) }
     requires lawful { WhileOpen (λ s. CanPutRows (entries_in s.now.trees) rows.now)
         (state S.Store conn.old) }
-    ensures made { HasCleanDisk (state S.Store conn.new)
-        → OnOk result (MakesRows rows.now (state S.Store conn.old) (state S.Store conn.new)) }
-    ensures keeps { HasCleanDisk (state S.Store conn.new)
-        → OnErr result (Keeps (state S.Store conn.old) (state S.Store conn.new)) }
-    ensures stop { Survives (state S.Store conn.old) (state S.Store conn.new)
-        (λ db. IsTrue (state S.Store conn.old).is_open
-        × PutsRows rows.now (state S.Store conn.old).now.trees db) }
+    ensures changes { ChangesOnce (PutsRows rows.now) (state S.Store conn.old)
+        (state S.Store conn.new) result }
 {
     if !conn.is_autocommit() {
         return Err(TableFault::Store);

@@ -1,14 +1,14 @@
 //! Resets the entries by one transaction: what was learnt of the provider is forgotten.
-ghost use Rattle.std.specs.Prelude.{◌≡◌, IsTrue, OnErr, OnOk};
+ghost use Rattle.std.specs.Prelude.{◌≡◌, OnOk};
 ghost use Rattle.std.specs.List.{count_by};
 ghost use Rattle.sqlite.specs.Held.{state};
-ghost use Rattle.sqlite.specs.State.{HasCleanDisk, Survives};
+ghost use Rattle.sqlite.specs.State.{HasCleanDisk};
 ghost use Rattle.sqlite.specs.Values.{bound};
 ghost use Rattle.scim_key.specs.declared.records.Kind.TheVariants.{Group, User};
-ghost use Rattle.sql_tables.specs.Statements.{GoesOn, Keeps, WhileOpen};
+ghost use Rattle.sql_tables.specs.Statements.{GoesOn, WhileOpen};
 ghost use Rattle.journal_core.specs.Forgetting.{is_learnt};
 ghost use Rattle.journal_store.specs.Batches.{IsUnderWay, settled};
-ghost use Rattle.journal_store.specs.Connections.{Commits, IsLaid};
+ghost use Rattle.journal_store.specs.Connections.{ChangesOnce, Commits, IsLaid};
 ghost use Rattle.journal_store.specs.Resets.{AreListed, ForgetsOnly, IsListed, ResetsAll, ResetsOne, none_values, reset_text};
 
 use crate::batches::write_in;
@@ -93,13 +93,8 @@ fn reset_both<S: Alter>(tables: &mut Transaction<'_, S>) -> Result<(), TableFaul
 pub(crate) fn reset_all<S: Alter>(conn: &mut Connection<S>) -> Result<(), TableFault>
     requires laid { WhileOpen IsLaid (state S.Store conn.old) }
     requires listed { WhileOpen (λ s. AreListed s.now.trees) (state S.Store conn.old) }
-    ensures made { HasCleanDisk (state S.Store conn.new)
-        → OnOk result (Commits ResetsAll (state S.Store conn.old) (state S.Store conn.new)) }
-    ensures keeps { HasCleanDisk (state S.Store conn.new)
-        → OnErr result (Keeps (state S.Store conn.old) (state S.Store conn.new)) }
-    ensures stop { Survives (state S.Store conn.old) (state S.Store conn.new)
-        (λ db. IsTrue (state S.Store conn.old).is_open
-        × ResetsAll (state S.Store conn.old).now.trees db) }
+    ensures changes { ChangesOnce ResetsAll (state S.Store conn.old)
+        (state S.Store conn.new) result }
 {
     if !conn.is_autocommit() {
         return Err(TableFault::Store);

@@ -147,7 +147,7 @@ pub(crate) trait Older: Format {
             → OnOk result
             (AreEmptied Self.Format (state S.Store tables.new.conn.now).now.trees) }
         ensures goes_on { GoesOn (state S.Store tables.old.conn.now) (state S.Store tables.new.conn.now)
-        result };
+            result };
 }
 
 impl Older for Second {
