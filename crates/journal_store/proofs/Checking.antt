@@ -1,5 +1,5 @@
 -- What the checks of an opening show, and what they leave.
-use Rattle.std.proofs.Common.{ℕ, ◌≡◌, ◌≢◌, ◌≤◌, List, [], ◌∷◌, map, Result, Ok, Err, IsTrue, OnOk, IfErr, IsErrAnd, refl, sym, ◌∙◌, subst, inl, IsPermutation}
+use Rattle.std.proofs.Common.{ℕ, ◌≡◌, ◌≢◌, List, [], ◌∷◌, map, Result, Ok, Err, IsTrue, OnOk, IfErr, IsErrAnd, refl, sym, ◌∙◌, subst, inl, IsPermutation}
 use Rattle.sqlite_value.specs.Order.{Row}
 use Rattle.sqlite_trees.specs.Tree.{rowid}
 use Rattle.sqlite.specs.Effect.{Database}

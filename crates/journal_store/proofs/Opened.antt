@@ -1,5 +1,5 @@
 -- What the opening of a journal of an older format leaves.
-use Rattle.std.proofs.Common.{◌≡◌, ◌⊎◌, false, true, ◌∷◌, IsTrue, Result, sym, ◌∙◌, inl, inr, arith}
+use Rattle.std.proofs.Common.{◌≡◌, ◌⊎◌, false, true, IsTrue, Result, sym, ◌∙◌, inl, inr, arith}
 use Rattle.std.specs.Prelude.{IfErr}
 use Rattle.sqlite_trees.specs.Tree.{Trees}
 use Rattle.sqlite.specs.State.{State, HasCleanDisk, Survives}

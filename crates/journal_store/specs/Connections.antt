@@ -192,8 +192,8 @@ pub record Commits (Changes : Trees → Trees → Type 0) (old new : State) : Ty
   pub laid : IsLaid new
   pub puts : Changes old.now.trees new.now.trees
 
--- A call that changes the tables in this way, by one commit. If it fails, they stay; a stop leaves them as they were, or
--- changed
+-- A call that changes the tables in this way, by one commit. If it fails, they stay; a stop leaves them as they were,
+-- or changed
 pub record ChangesOnce {T F : Type 0} (Changes : Trees → Trees → Type 0) (old new : State) (result : Result T F)
     : Type 0 where
   pub made : HasCleanDisk new → OnOk result (Commits Changes old new)

@@ -8,7 +8,7 @@ ghost use Rattle.source_csv.specs.Rows.{IsGroupRow, IsUserRow};
 ghost use Rattle.source_csv.specs.declared.rows.Row.TheVariants.{User, Group};
 ghost use Rattle.journal_core.specs.Entries.{CanPutRows};
 ghost use Rattle.journal_store.specs.Rows.{entries_in, row_by};
-ghost use Rattle.sql_tables.specs.Statements.{Checks, GoesOn, LeavesStore, Ran, WhileOpen};
+ghost use Rattle.sql_tables.specs.Statements.{GoesOn, LeavesStore, Ran, WhileOpen};
 ghost use Rattle.journal_store.specs.Batches.{IsUnderWay, PutsRow, PutsRows, settled};
 ghost use Rattle.journal_store.specs.Connections.{ChangesOnce, Finds, HasNumbers, IsEditText, IsLaid, IsThere, Makes};
 

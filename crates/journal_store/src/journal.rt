@@ -10,7 +10,7 @@ ghost use Rattle.journal_core.specs.declared.journals.JournalFault.TheVariants.{
 ghost use Rattle.journal_store.specs.Calls.{Reads, Writes, OpensAgain, call_result};
 ghost use Rattle.journal_store.specs.Connections.{ListsAll, ListsNone};
 ghost use Rattle.sql_tables.specs.Faults.{HasFailed};
-ghost use Rattle.sql_tables.specs.Statements.{Checks, LeavesStore};
+ghost use Rattle.sql_tables.specs.Statements.{LeavesStore};
 ghost use Rattle.journal_store.specs.Kept.{CallFailsFor, IsFaithful, IsHonest, IsRefused, MayHold, kept_entries};
 ghost use Rattle.journal_store.specs.Opening.{Becomes, IsCause, IsUnfit, LeavesStanding, OpenFailsFor, OpeningFails, Stands, journal_fault, table_fault};
 ghost use Rattle.journal_store.specs.Resets.{AreListed};

@@ -4,7 +4,7 @@ ghost use Rattle.std.specs.FinMap.{empty};
 ghost use Rattle.sqlite.specs.Held.{state};
 ghost use Rattle.sqlite.specs.State.{HasCleanDisk, Survives};
 ghost use Rattle.sql_tables.specs.Layouts.{IsBlank};
-ghost use Rattle.sql_tables.specs.Statements.{GoesOn, LeavesStore, WhileOpen};
+ghost use Rattle.sql_tables.specs.Statements.{GoesOn, IsInside, LeavesStore, WhileOpen};
 ghost use Rattle.journal_store.specs.Older.Carrying.{MakesTables};
 ghost use Rattle.journal_store.specs.Opening.{IsSecond, IsStore, LeavesNone};
 
@@ -14,8 +14,7 @@ use sqlite::{Alter, Connection, Error, Transaction};
 
 /// Makes the tables of the entries, beside those of the second format.
 pub(crate) fn make_entries<S: Alter>(tables: &mut Transaction<'_, S>) -> Result<(), Error>
-    requires inside { HasCleanDisk (state S.Store tables.old.conn.now)
-        → IsTrue (state S.Store tables.old.conn.now).in_transaction }
+    requires inside { IsInside (state S.Store tables.old.conn.now) }
     requires second { WhileOpen (λ s. IsSecond s.now.schema) (state S.Store tables.old.conn.now) }
     ensures same_reference { tables.new.conn.ghost_name ≡ tables.old.conn.ghost_name }
     ensures made { HasCleanDisk (state S.Store tables.new.conn.now)

@@ -15,7 +15,7 @@ ghost use Rattle.provider_store.specs.Opening.{IsCause, IsDamaged, IsUnfit, Leav
 ghost use Rattle.sqlite.specs.Held.{state};
 ghost use Rattle.sqlite.specs.State.{HasCleanDisk, Survives};
 ghost use Rattle.sql_tables.specs.Faults.{HasFailed};
-ghost use Rattle.sql_tables.specs.Statements.{Checks, LeavesStore};
+ghost use Rattle.sql_tables.specs.Statements.{LeavesStore};
 
 use crate::opening::{RegistryOpenFault, check_tables, open_tables};
 use crate::tables::{Found, find_named, find_numbered, find_page, insert_row, update_row};

@@ -23,6 +23,10 @@ use Rattle.sql_tables.specs.Layouts.{format_tree}
 abbrev pub WhileOpen : (State → Type 0) → State → Type 0
 WhileOpen Holds s = HasCleanDisk s → IsTrue s.is_open → Holds s
 
+-- a transaction is open, if the disk returns what was written
+abbrev pub IsInside : State → Type 0
+IsInside s = HasCleanDisk s → IsTrue s.in_transaction
+
 -- ---- what a call leaves
 
 -- the connection is unchanged, if it is still open and was outside a transaction

@@ -7,7 +7,7 @@ ghost use Rattle.scim_key.specs.declared.records.Kind.{Kind as KindData};
 ghost use Rattle.scim_key.specs.declared.records.Kind.TheVariants.{User};
 ghost use Rattle.journal_core.specs.Entries.{EntryMap};
 ghost use Rattle.sql_tables.specs.Layouts.{IsBlank};
-ghost use Rattle.sql_tables.specs.Statements.{GoesOn, LeavesStore, WhileOpen};
+ghost use Rattle.sql_tables.specs.Statements.{GoesOn, IsInside, LeavesStore, WhileOpen};
 ghost use Rattle.journal_store.specs.Batches.{settled};
 ghost use Rattle.journal_store.specs.Older.Format.{first_tree, second_tree};
 ghost use Rattle.journal_store.specs.Opening.{AreEmptied, IsFirstStore, IsSecondStore, IsStore, IsStoreBy, LeavesCarriedBy};
@@ -24,8 +24,7 @@ use sqlite_value::value::ValueRef;
 
 /// Makes the tables of the first format, with the row of its number.
 pub(crate) fn make_first<S: Alter>(tables: &mut Transaction<'_, S>) -> Result<(), Error>
-    requires inside { HasCleanDisk (state S.Store tables.old.conn.now)
-        → IsTrue (state S.Store tables.old.conn.now).in_transaction }
+    requires inside { IsInside (state S.Store tables.old.conn.now) }
     requires blank { WhileOpen (λ s. IsBlank (settled s)) (state S.Store tables.old.conn.now) }
     ensures same_reference { tables.new.conn.ghost_name ≡ tables.old.conn.ghost_name }
     ensures made { HasCleanDisk (state S.Store tables.new.conn.now)
@@ -68,8 +67,7 @@ fn one_changed(count: usize) -> Result<(), Error>
 /// Carries the tables of the first format over to the second one. `QueryReturnedNoRows` says that the row of the
 /// format isn't numbered 1.
 fn carry_first<S: Alter>(tables: &mut Transaction<'_, S>) -> Result<(), Error>
-    requires inside { HasCleanDisk (state S.Store tables.old.conn.now)
-        → IsTrue (state S.Store tables.old.conn.now).in_transaction }
+    requires inside { IsInside (state S.Store tables.old.conn.now) }
     requires first { WhileOpen (λ s. (entries : EntryMap) × IsFirstStore (settled s) entries)
         (state S.Store tables.old.conn.now) }
     ensures same_reference { tables.new.conn.ghost_name ≡ tables.old.conn.ghost_name }
@@ -99,8 +97,7 @@ fn carry_first<S: Alter>(tables: &mut Transaction<'_, S>) -> Result<(), Error>
 
 /// Carries the tables of the second format over to the current one, as `carry_first` does.
 fn carry_second<S: Alter>(tables: &mut Transaction<'_, S>) -> Result<(), Error>
-    requires inside { HasCleanDisk (state S.Store tables.old.conn.now)
-        → IsTrue (state S.Store tables.old.conn.now).in_transaction }
+    requires inside { IsInside (state S.Store tables.old.conn.now) }
     requires second { WhileOpen (λ s. (entries : EntryMap) × IsSecondStore (settled s) entries)
         (state S.Store tables.old.conn.now) }
     ensures same_reference { tables.new.conn.ghost_name ≡ tables.old.conn.ghost_name }
@@ -134,8 +131,7 @@ fn carry_second<S: Alter>(tables: &mut Transaction<'_, S>) -> Result<(), Error>
 pub(crate) trait Older: Format {
     /// Carries the tables over, and leaves those of the format and of the second one empty.
     fn carry_over<S: Alter>(tables: &mut Transaction<'_, S>) -> Result<(), Error>
-        requires inside { HasCleanDisk (state S.Store tables.old.conn.now)
-            → IsTrue (state S.Store tables.old.conn.now).in_transaction }
+        requires inside { IsInside (state S.Store tables.old.conn.now) }
         requires older { WhileOpen (λ s. (entries : EntryMap)
             × IsStoreBy Self.Format (settled s) entries) (state S.Store tables.old.conn.now) }
         ensures same_reference { tables.new.conn.ghost_name ≡ tables.old.conn.ghost_name }
@@ -146,8 +142,8 @@ pub(crate) trait Older: Format {
         ensures emptied { HasCleanDisk (state S.Store tables.new.conn.now)
             → OnOk result
             (AreEmptied Self.Format (state S.Store tables.new.conn.now).now.trees) }
-        ensures goes_on { GoesOn (state S.Store tables.old.conn.now) (state S.Store tables.new.conn.now)
-            result };
+        ensures goes_on { GoesOn (state S.Store tables.old.conn.now)
+            (state S.Store tables.new.conn.now) result };
 }
 
 impl Older for Second {
