@@ -1,5 +1,5 @@
 -- What the checks of an opening show, and what they leave.
-use Rattle.std.proofs.Common.{ℕ, ◌≡◌, ◌≢◌, ◌≤◌, List, [], ◌∷◌, map, Result, Ok, Err, IsTrue, OnOk, IfErr, IsErrAnd, refl, sym, ◌∙◌, subst, inl, IsPermutation}
+use Rattle.std.proofs.Common.{ℕ, ◌≡◌, ◌≢◌, List, [], ◌∷◌, map, Result, Ok, Err, IsTrue, OnOk, IfErr, IsErrAnd, refl, sym, ◌∙◌, subst, inl, IsPermutation}
 use Rattle.sqlite_value.specs.Order.{Row}
 use Rattle.sqlite_trees.specs.Tree.{rowid}
 use Rattle.sqlite.specs.Effect.{Database}
@@ -11,8 +11,6 @@ use Rattle.journal_core.specs.declared.entries.Entry.{Entry}
 use Rattle.sql_tables.specs.Layouts.{no_schema, IsFormat, IsLaid as IsLaidBy}
 use Rattle.sqlite_schema.specs.declared.schema.Schema.{Schema}
 use Rattle.sql_tables.specs.Statements.{Answers, IsGiven, Looks}
-use Rattle.sql_tables.specs.Faults.{HasFailed}
-use Rattle.sql_tables.proofs.Failing.{failed_since}
 use Rattle.journal_store.specs.Connections.{AreNumbered, HasNumbersBy, Lists, ListsAllBy, Shows}
 use Rattle.journal_store.specs.Formats.{FormatData}
 use Rattle.journal_store.specs.Rows.{entries_by}
@@ -97,10 +95,6 @@ opens_of P Q h (Err given) fault is it = subst (OpenFailsFor Q) (sym is) (opens_
 pub fails_of : {T : Type 0} (P Q : Type 0) → (P → Q) → (r : Result T JournalOpenFault) (fault : TableFault) → IsErrAnd r (λ given. given ≡ open_fault fault) → FailsFor P fault → IfErr r (OpenFailsFor Q)
 fails_of P Q h (Ok x) fault is it = tt
 fails_of P Q h (Err given) fault is it = subst (OpenFailsFor Q) (sym is) (told_fails P Q h fault it)
-
--- what fails after a look fails from before it
-pub failed_after : (old mid new : State) → Looks old mid → HasCleanDisk mid → mid.faults ≤ new.faults → HasFailed mid new → HasFailed old new
-failed_after old mid new looks = failed_since old mid new looks.quiet
 
 -- ---- the numbers of the rows
 

@@ -1,18 +1,14 @@
 -- What the opening of a journal of an older format leaves.
-use Rattle.std.proofs.Common.{◌≡◌, ◌⊎◌, pos, false, true, [], ◌∷◌, IsTrue, Result, refl, sym, ◌∙◌, inl, inr, arith}
+use Rattle.std.proofs.Common.{◌≡◌, ◌⊎◌, false, true, IsTrue, Result, sym, ◌∙◌, inl, inr, arith}
 use Rattle.std.specs.Prelude.{IfErr}
-use Rattle.sqlite_value.specs.declared.value.Value.TheVariants.{Int}
 use Rattle.sqlite_trees.specs.Tree.{Trees}
 use Rattle.sqlite.specs.State.{State, HasCleanDisk, Survives}
 use Rattle.sqlite.proofs.StateLemmas.{survives_then}
 use Rattle.std.specs.FinMap.{empty}
 use Rattle.journal_core.specs.Entries.{EntryMap}
-use Rattle.sql_tables.specs.Layouts.{IsBlank, IsFormat, IsMark, IsOne}
-use Rattle.sql_tables.specs.declared.marks.Mark.{Mark}
-use Rattle.sql_tables.specs.declared.marks.Mark.TheVariants.{Own, Newer, Unmarked}
+use Rattle.sql_tables.specs.Layouts.{IsBlank, IsOne}
 use Rattle.sql_tables.proofs.Results.{if_err}
 use Rattle.sql_tables.specs.Statements.{Looks}
-use Rattle.journal_store.specs.Format.{format_number}
 use Rattle.journal_store.specs.Formats.{FormatData, current_format}
 use Rattle.journal_store.specs.Older.Formats.{first_format, second_format}
 use Rattle.journal_store.specs.Opening.{IsCarriedBy, IsCause, IsFor, IsJournal, IsNewer, IsNotLaid, IsNotLaidBy, IsSpoilt, IsSpoiltBy, IsStore, IsStoreBy, LeavesCarried, LeavesCarriedBy, LeavesStanding, Stands}
@@ -44,15 +40,6 @@ stop_stands old new h it = record { clean = it.clean; shield = it.shield; counts
 pub journal_cause : {T : Type 0} (s : State) (r : Result T JournalOpenFault) → IsJournal s.now.schema → s.in_transaction ≡ false → IfErr r (IsFor (IsNewer s) (IsNotLaid s ⊎ IsSpoilt s)) → IfErr r (IsCause s)
 journal_cause s r journal outside =
     if_err r (λ fault it. is_for {P = IsNewer s} {Q = IsNewer s} (λ newer. newer) (λ damage. inr (inl (older_spoilt current_format s journal outside damage))) fault it)
-
--- the number of the format isn't newer
-pub not_newer : (s : State) (mark : Mark) → (mark ≡ Newer → ⊥) → IsMark (IsFormat s) format_number mark → IsNewer s → ⊥
-not_newer s Own other own newer =
-    let same : Int (pos format_number) ∷ [] ≡ Int (pos newer.0) ∷ [] = sym own ∙ newer.2 in
-    let number : format_number ≡ newer.0 = cc in
-    omega (arith, number, newer.1)
-not_newer s Newer other above newer = other refl
-not_newer s Unmarked other none newer = none newer.0 (omega (arith, newer.1)) newer.2
 
 -- what stood before an opening, without what it made of it
 pub stood : (old new : State) (entries : EntryMap)

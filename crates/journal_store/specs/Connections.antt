@@ -1,5 +1,5 @@
 -- What the statements require of a connection, and what they leave of it.
-use Rattle.std.specs.Prelude.{◌≡◌, ◌⊎◌, ◌+◌, ℕ, ℤ, Bool, true, false, List, [], ◌∷◌, ◌++◌, Option, Some, None, Ok, IsTrue, IsPermutation, MatchOption, filter, map}
+use Rattle.std.specs.Prelude.{◌≡◌, ◌⊎◌, ◌+◌, ℕ, ℤ, Bool, true, false, List, [], ◌∷◌, ◌++◌, Option, Some, None, Result, Ok, OnErr, OnOk, IsTrue, IsPermutation, MatchOption, filter, map}
 use Rattle.std.specs.List.{AllByRecursion, AllZip}
 use Rattle.std.specs.List.Sorted.{IsSorted, IsStrictlySortedBy}
 use Rattle.scim_key.specs.Records.{name_cmp}
@@ -9,7 +9,7 @@ use Rattle.sqlite_value.specs.Order.{Row, column, value_cmp}
 use Rattle.sqlite_trees.specs.Tree.{Trees, rowid, has_rowid, put_row, without_rowid}
 use Rattle.sqlite_rules.specs.Edit.{is_taken}
 use Rattle.sqlite_rules.specs.Lists.{Has}
-use Rattle.sqlite.specs.State.{State}
+use Rattle.sqlite.specs.State.{State, HasCleanDisk, Survives}
 use Rattle.sqlite.specs.Effect.{Reads}
 use Rattle.sqlite.specs.Listing.{understood}
 use Rattle.sqlite_resolve.specs.declared.compiled.Compiled.{Compiled}
@@ -22,7 +22,7 @@ use Rattle.source_csv.specs.declared.rows.Row as source
 use Rattle.journal_core.specs.declared.entries.Entry.{Entry}
 use Rattle.sql_tables.specs.Layouts.{IsLaid as IsLaidBy}
 use Rattle.sqlite_schema.specs.declared.schema.Schema.{Schema}
-use Rattle.sql_tables.specs.Statements.{IsEditText as IsEditOf}
+use Rattle.sql_tables.specs.Statements.{IsEditText as IsEditOf, Keeps}
 use Rattle.journal_store.specs.Format.{entry_tree, insert_text, journal_schema, update_text}
 use Rattle.journal_store.specs.Rows.{IsLawfulId, IsReadable, confirmed_in, entry_in, id_in, row_of, shown_row, source_in, texts_of}
 
@@ -31,10 +31,6 @@ use Rattle.journal_store.specs.Rows.{IsLawfulId, IsReadable, confirmed_in, entry
 -- the tables are laid out, and no transaction is open
 abbrev pub IsLaid : State → Type 0
 IsLaid = IsLaidBy journal_schema
-
--- the rows of the entries of one type
-abbrev pub table_in : Kind → State → List Row
-table_in kind s = s.now.trees (entry_tree kind)
 
 -- ---- entries
 
@@ -195,6 +191,14 @@ pub record Commits (Changes : Trees → Trees → Type 0) (old new : State) : Ty
   pub is_open : IsTrue new.is_open
   pub laid : IsLaid new
   pub puts : Changes old.now.trees new.now.trees
+
+-- A call that changes the tables in this way, by one commit. If it fails, they stay; a stop leaves them as they were,
+-- or changed
+pub record ChangesOnce {T F : Type 0} (Changes : Trees → Trees → Type 0) (old new : State) (result : Result T F)
+    : Type 0 where
+  pub made : HasCleanDisk new → OnOk result (Commits Changes old new)
+  pub keeps : HasCleanDisk new → OnErr result (Keeps old new)
+  pub stop : Survives old new (λ db. IsTrue old.is_open × Changes old.now.trees db)
 
 -- the entry is put and committed
 abbrev pub Makes : Bool → Entry → (old new : State) → Type 0

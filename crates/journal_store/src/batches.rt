@@ -1,5 +1,5 @@
 //! Puts rows by one transaction, all of them or none.
-ghost use Rattle.std.specs.Prelude.{◌≡◌, true, IfOk, IsTrue, OnErr, OnOk};
+ghost use Rattle.std.specs.Prelude.{◌≡◌, true, IfOk, OnOk};
 ghost use Rattle.sqlite.specs.Held.{state};
 ghost use Rattle.sqlite.specs.State.{HasCleanDisk, IsUnchanged, Survives};
 ghost use Rattle.sqlite.specs.Values.{bound};
@@ -8,9 +8,9 @@ ghost use Rattle.source_csv.specs.Rows.{IsGroupRow, IsUserRow};
 ghost use Rattle.source_csv.specs.declared.rows.Row.TheVariants.{User, Group};
 ghost use Rattle.journal_core.specs.Entries.{CanPutRows};
 ghost use Rattle.journal_store.specs.Rows.{entries_in, row_by};
-ghost use Rattle.sql_tables.specs.Statements.{Keeps, LeavesStore, Ran};
-ghost use Rattle.journal_store.specs.Batches.{IsUnderWay, MakesRows, PutsRow, PutsRows, settled};
-ghost use Rattle.journal_store.specs.Connections.{Finds, HasNumbers, IsEditText, IsLaid, IsThere, Makes};
+ghost use Rattle.sql_tables.specs.Statements.{GoesOn, LeavesStore, Ran, WhileOpen};
+ghost use Rattle.journal_store.specs.Batches.{IsUnderWay, PutsRow, PutsRows, settled};
+ghost use Rattle.journal_store.specs.Connections.{ChangesOnce, Finds, HasNumbers, IsEditText, IsLaid, IsThere, Makes};
 
 use crate::statements::TableFault;
 use crate::tables::{
@@ -80,12 +80,8 @@ pub(crate) fn write_in<S: Alter>(
         → OnOk result
         (Ran sql.now (bound params.now) (settled (state S.Store tables.old.conn.now))
         (settled (state S.Store tables.new.conn.now))) }
-    ensures inside { HasCleanDisk (state S.Store tables.new.conn.now)
-        → OnOk result (IsTrue (state S.Store tables.new.conn.now).in_transaction) }
-    ensures left { HasCleanDisk (state S.Store tables.new.conn.now)
-        → LeavesStore (state S.Store tables.old.conn.now) (state S.Store tables.new.conn.now) }
-    ensures quiet { Survives (state S.Store tables.old.conn.now) (state S.Store tables.new.conn.now)
-        (λ _. ⊥) }
+    ensures goes_on { GoesOn (state S.Store tables.old.conn.now) (state S.Store tables.new.conn.now)
+        result }
 {
     match tables.execute(sql, params) {
         Ok(_) => Ok(()),
@@ -111,12 +107,8 @@ fn write_user_in<S: Alter>(
         (Ran sql.now (row_by (User user.now) confirmed id.now)
         (settled (state S.Store tables.old.conn.now))
         (settled (state S.Store tables.new.conn.now))) }
-    ensures inside { HasCleanDisk (state S.Store tables.new.conn.now)
-        → OnOk result (IsTrue (state S.Store tables.new.conn.now).in_transaction) }
-    ensures left { HasCleanDisk (state S.Store tables.new.conn.now)
-        → LeavesStore (state S.Store tables.old.conn.now) (state S.Store tables.new.conn.now) }
-    ensures quiet { Survives (state S.Store tables.old.conn.now) (state S.Store tables.new.conn.now)
-        (λ _. ⊥) }
+    ensures goes_on { GoesOn (state S.Store tables.old.conn.now) (state S.Store tables.new.conn.now)
+        result }
 {
     let revision = user.revision();
     let key = user.login().key(alloc)?;
@@ -142,12 +134,8 @@ fn write_group_in<S: Alter>(
         (Ran sql.now (row_by (Group group.now) confirmed id.now)
         (settled (state S.Store tables.old.conn.now))
         (settled (state S.Store tables.new.conn.now))) }
-    ensures inside { HasCleanDisk (state S.Store tables.new.conn.now)
-        → OnOk result (IsTrue (state S.Store tables.new.conn.now).in_transaction) }
-    ensures left { HasCleanDisk (state S.Store tables.new.conn.now)
-        → LeavesStore (state S.Store tables.old.conn.now) (state S.Store tables.new.conn.now) }
-    ensures quiet { Survives (state S.Store tables.old.conn.now) (state S.Store tables.new.conn.now)
-        (λ _. ⊥) }
+    ensures goes_on { GoesOn (state S.Store tables.old.conn.now) (state S.Store tables.new.conn.now)
+        result }
 {
     let revision = group.revision();
     let key = group.name().key(alloc)?;
@@ -169,21 +157,16 @@ fn put_entry_in<S: Alter>(
     id: &Option<ResourceId>,
 ) -> Result<(), TableFault>
     requires under_way { IsUnderWay (state S.Store tables.old.conn.now) }
-    requires there { HasCleanDisk (state S.Store tables.old.conn.now)
-        → IsTrue (state S.Store tables.old.conn.now).is_open → is_there ≡ true
-        → IsThere (state S.Store tables.old.conn.now).now.trees (row_name row.now) }
+    requires there { WhileOpen (λ s. is_there ≡ true → IsThere s.now.trees (row_name row.now))
+        (state S.Store tables.old.conn.now) }
     ensures same_reference { tables.new.conn.ghost_name ≡ tables.old.conn.ghost_name }
     ensures made { HasCleanDisk (state S.Store tables.new.conn.now)
         → OnOk result
         (Makes is_there (record { row = row.now; confirmed = confirmed; id = id.now })
         (settled (state S.Store tables.old.conn.now))
         (settled (state S.Store tables.new.conn.now))) }
-    ensures inside { HasCleanDisk (state S.Store tables.new.conn.now)
-        → OnOk result (IsTrue (state S.Store tables.new.conn.now).in_transaction) }
-    ensures left { HasCleanDisk (state S.Store tables.new.conn.now)
-        → LeavesStore (state S.Store tables.old.conn.now) (state S.Store tables.new.conn.now) }
-    ensures quiet { Survives (state S.Store tables.old.conn.now) (state S.Store tables.new.conn.now)
-        (λ _. ⊥) }
+    ensures goes_on { GoesOn (state S.Store tables.old.conn.now) (state S.Store tables.new.conn.now)
+        result }
 {
     let sql = put_statement(kind_of(row), is_there);
     match row {
@@ -199,21 +182,15 @@ fn put_in<S: Alter>(
     row: &SourceRow,
 ) -> Result<(), TableFault>
     requires under_way { IsUnderWay (state S.Store tables.old.conn.now) }
-    requires numbers { HasCleanDisk (state S.Store tables.old.conn.now)
-        → IsTrue (state S.Store tables.old.conn.now).is_open
-        → HasNumbers (state S.Store tables.old.conn.now).now.trees }
+    requires numbers { WhileOpen (λ s. HasNumbers s.now.trees) (state S.Store tables.old.conn.now) }
     ensures same_reference { tables.new.conn.ghost_name ≡ tables.old.conn.ghost_name }
     ensures put { HasCleanDisk (state S.Store tables.new.conn.now)
         → OnOk result
         (PutsRow row.now (state S.Store tables.old.conn.now).now.trees
         (state S.Store tables.new.conn.now).now.trees) }
-    ensures open { HasCleanDisk (state S.Store tables.new.conn.now)
-        → OnOk result (IsTrue (state S.Store tables.new.conn.now).is_open) }
     ensures under_way { OnOk result (IsUnderWay (state S.Store tables.new.conn.now)) }
-    ensures left { HasCleanDisk (state S.Store tables.new.conn.now)
-        → LeavesStore (state S.Store tables.old.conn.now) (state S.Store tables.new.conn.now) }
-    ensures quiet { Survives (state S.Store tables.old.conn.now) (state S.Store tables.new.conn.now)
-        (λ _. ⊥) }
+    ensures goes_on { GoesOn (state S.Store tables.old.conn.now) (state S.Store tables.new.conn.now)
+        result }
 {
     let name = row.record_name(alloc)?;
     let held = find_in(alloc, tables, &name)?;
@@ -229,24 +206,17 @@ fn put_each<S: Alter>(
     rows: &[SourceRow],
 ) -> Result<(), TableFault>
     requires under_way { IsUnderWay (state S.Store tables.old.conn.now) }
-    requires numbers { HasCleanDisk (state S.Store tables.old.conn.now)
-        → IsTrue (state S.Store tables.old.conn.now).is_open
-        → HasNumbers (state S.Store tables.old.conn.now).now.trees }
-    requires lawful { HasCleanDisk (state S.Store tables.old.conn.now)
-        → IsTrue (state S.Store tables.old.conn.now).is_open
-        → CanPutRows (entries_in (state S.Store tables.old.conn.now).now.trees) rows.now }
+    requires numbers { WhileOpen (λ s. HasNumbers s.now.trees) (state S.Store tables.old.conn.now) }
+    requires lawful { WhileOpen (λ s. CanPutRows (entries_in s.now.trees) rows.now)
+        (state S.Store tables.old.conn.now) }
     ensures same_reference { tables.new.conn.ghost_name ≡ tables.old.conn.ghost_name }
     ensures put { HasCleanDisk (state S.Store tables.new.conn.now)
         → OnOk result
         (PutsRows rows.now (state S.Store tables.old.conn.now).now.trees
         (state S.Store tables.new.conn.now).now.trees) }
-    ensures open { HasCleanDisk (state S.Store tables.new.conn.now)
-        → OnOk result (IsTrue (state S.Store tables.new.conn.now).is_open) }
     ensures under_way { OnOk result (IsUnderWay (state S.Store tables.new.conn.now)) }
-    ensures left { HasCleanDisk (state S.Store tables.new.conn.now)
-        → LeavesStore (state S.Store tables.old.conn.now) (state S.Store tables.new.conn.now) }
-    ensures quiet { Survives (state S.Store tables.old.conn.now) (state S.Store tables.new.conn.now)
-        (λ _. ⊥) }
+    ensures goes_on { GoesOn (state S.Store tables.old.conn.now) (state S.Store tables.new.conn.now)
+        result }
 {
     check_open(tables)?;
     for row in rows {
@@ -263,20 +233,12 @@ pub(crate) fn put_all<S: Alter>(
     conn: &mut Connection<S>,
     rows: &[SourceRow],
 ) -> Result<(), TableFault>
-    requires laid { HasCleanDisk (state S.Store conn.old) → IsTrue (state S.Store conn.old).is_open
-        → IsLaid (state S.Store conn.old) }
-    requires numbers { HasCleanDisk (state S.Store conn.old)
-        → IsTrue (state S.Store conn.old).is_open → HasNumbers (state S.Store conn.old).now.trees }
-    requires lawful { HasCleanDisk (state S.Store conn.old)
-        → IsTrue (state S.Store conn.old).is_open
-        → CanPutRows (entries_in (state S.Store conn.old).now.trees) rows.now }
-    ensures made { HasCleanDisk (state S.Store conn.new)
-        → OnOk result (MakesRows rows.now (state S.Store conn.old) (state S.Store conn.new)) }
-    ensures keeps { HasCleanDisk (state S.Store conn.new)
-        → OnErr result (Keeps (state S.Store conn.old) (state S.Store conn.new)) }
-    ensures stop { Survives (state S.Store conn.old) (state S.Store conn.new)
-        (λ db. IsTrue (state S.Store conn.old).is_open
-        × PutsRows rows.now (state S.Store conn.old).now.trees db) }
+    requires laid { WhileOpen IsLaid (state S.Store conn.old) }
+    requires numbers { WhileOpen (λ s. HasNumbers s.now.trees) (state S.Store conn.old) }
+    requires lawful { WhileOpen (λ s. CanPutRows (entries_in s.now.trees) rows.now)
+        (state S.Store conn.old) }
+    ensures changes { ChangesOnce (PutsRows rows.now) (state S.Store conn.old)
+        (state S.Store conn.new) result }
 {
     if !conn.is_autocommit() {
         return Err(TableFault::Store);

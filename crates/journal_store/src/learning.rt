@@ -1,11 +1,10 @@
 //! Writes what was learnt of a record into its row.
-ghost use Rattle.std.specs.Prelude.{◌≡◌, IsTrue, OnErr, OnOk};
+ghost use Rattle.std.specs.Prelude.{◌≡◌};
 ghost use Rattle.sqlite.specs.Held.{state};
-ghost use Rattle.sqlite.specs.State.{HasCleanDisk, Survives};
 ghost use Rattle.sqlite.specs.Values.{bound};
 ghost use Rattle.journal_core.specs.Entries.{CanPutLearnt};
-ghost use Rattle.sql_tables.specs.Statements.{Keeps};
-ghost use Rattle.journal_store.specs.Connections.{Commits, HasNumbers, IsLaid};
+ghost use Rattle.sql_tables.specs.Statements.{WhileOpen};
+ghost use Rattle.journal_store.specs.Connections.{ChangesOnce, HasNumbers, IsLaid};
 ghost use Rattle.journal_store.specs.Learning.{Learns, learn_text, learnt_values};
 ghost use Rattle.journal_store.specs.Rows.{entries_in};
 
@@ -50,22 +49,12 @@ pub(crate) fn learn<S: Alter>(
     confirmed: Revision,
     id: &ResourceId,
 ) -> Result<(), TableFault>
-    requires laid { HasCleanDisk (state S.Store conn.old) → IsTrue (state S.Store conn.old).is_open
-        → IsLaid (state S.Store conn.old) }
-    requires numbers { HasCleanDisk (state S.Store conn.old)
-        → IsTrue (state S.Store conn.old).is_open → HasNumbers (state S.Store conn.old).now.trees }
-    requires lawful { HasCleanDisk (state S.Store conn.old)
-        → IsTrue (state S.Store conn.old).is_open
-        → CanPutLearnt (entries_in (state S.Store conn.old).now.trees) name.now confirmed }
-    ensures made { HasCleanDisk (state S.Store conn.new)
-        → OnOk result
-        (Commits (Learns name.now confirmed id.now) (state S.Store conn.old)
-        (state S.Store conn.new)) }
-    ensures keeps { HasCleanDisk (state S.Store conn.new)
-        → OnErr result (Keeps (state S.Store conn.old) (state S.Store conn.new)) }
-    ensures stop { Survives (state S.Store conn.old) (state S.Store conn.new)
-        (λ db. IsTrue (state S.Store conn.old).is_open
-        × Learns name.now confirmed id.now (state S.Store conn.old).now.trees db) }
+    requires laid { WhileOpen IsLaid (state S.Store conn.old) }
+    requires numbers { WhileOpen (λ s. HasNumbers s.now.trees) (state S.Store conn.old) }
+    requires lawful { WhileOpen (λ s. CanPutLearnt (entries_in s.now.trees) name.now confirmed)
+        (state S.Store conn.old) }
+    ensures changes { ChangesOnce (Learns name.now confirmed id.now) (state S.Store conn.old)
+        (state S.Store conn.new) result }
 {
     // The tables obey their schema, so at most one row has the key.
     let _schema = conn.schema();

@@ -8,7 +8,7 @@ ghost use Rattle.sqlite.specs.State.{HasCleanDisk, Survives};
 ghost use Rattle.journal_store.specs.Connections.{AreNumbered, HasNumbersBy};
 ghost use Rattle.sql_tables.specs.Faults.{HasFailed};
 ghost use Rattle.sql_tables.specs.Layouts.{IsFormat, IsLaid as IsLaidBy, IsMark, IsOne};
-ghost use Rattle.sql_tables.specs.Statements.{LeavesStore, Looks};
+ghost use Rattle.sql_tables.specs.Statements.{Checks, LeavesStore, Looks, WhileOpen};
 ghost use Rattle.journal_store.specs.Opening.{AreRising, Becomes, HasFormatTable, HoldsEntriesBy, IsCarriedBy, IsCause, IsFor, IsNewer, IsNotLaidBy, IsOfRows, IsOlder, IsSpoiltBy, IsStore, IsStoreBy, IsUnmarkedBy, IsUnnumbered, LeavesCarriedBy, LeavesStanding, OpenFailsFor, OpeningFails, ShowsDamageBy};
 
 use crate::format::{FORMAT, Journal, Unknown, is_journal};
@@ -85,17 +85,11 @@ fn mark_of<S: Alter, F: Marked>(
     conn: &mut Connection<S>,
     number: u64,
 ) -> Result<Mark, JournalOpenFault>
-    requires laid { HasCleanDisk (state S.Store conn.old) → IsTrue (state S.Store conn.old).is_open
-        → IsLaidBy F.layout (state S.Store conn.old) }
+    requires laid { WhileOpen (IsLaidBy F.layout) (state S.Store conn.old) }
     ensures mark { HasCleanDisk (state S.Store conn.new)
         → IfOk result (IsMark (IsFormat (state S.Store conn.old)) number) }
     ensures cause { IfErr result (IsFor ⊥ ⊥) }
-    ensures failed { HasCleanDisk (state S.Store conn.new)
-        → IfErr result
-        (OpenFailsFor (HasFailed (state S.Store conn.old) (state S.Store conn.new))) }
-    ensures open { HasCleanDisk (state S.Store conn.new)
-        → OnOk result (IsTrue (state S.Store conn.new).is_open) }
-    ensures looks { Looks (state S.Store conn.old) (state S.Store conn.new) }
+    ensures checks { Checks OpenFailsFor (state S.Store conn.old) (state S.Store conn.new) result }
 {
     match find_mark::<S, F>(conn, F::marked_statement(), number) {
         Ok(mark) => Ok(mark),
@@ -106,10 +100,9 @@ fn mark_of<S: Alter, F: Marked>(
 /// The fault for a number above that of the format: either it is above each known one, or the tables aren't
 /// those of its format.
 fn number_fault<S: Alter, F: Format>(conn: &mut Connection<S>) -> JournalOpenFault
-    requires laid { HasCleanDisk (state S.Store conn.old) → IsTrue (state S.Store conn.old).is_open
-        → IsLaidBy F.layout (state S.Store conn.old) }
-    requires above { HasCleanDisk (state S.Store conn.old) → IsTrue (state S.Store conn.old).is_open
-        → (number : ℕ) × (F.number < number) × IsFormat (state S.Store conn.old) number }
+    requires laid { WhileOpen (IsLaidBy F.layout) (state S.Store conn.old) }
+    requires above { WhileOpen (λ s. (number : ℕ) × (F.number < number) × IsFormat s number)
+        (state S.Store conn.old) }
     ensures cause { HasCleanDisk (state S.Store conn.new)
         → IsFor (IsTrue (state S.Store conn.new).is_open
         × IsNewer (state S.Store conn.old)) (IsTrue (state S.Store conn.new).is_open
@@ -127,20 +120,14 @@ fn number_fault<S: Alter, F: Format>(conn: &mut Connection<S>) -> JournalOpenFau
 
 /// Checks the number of the format.
 fn check_format<S: Alter, F: Format>(conn: &mut Connection<S>) -> Result<(), JournalOpenFault>
-    requires laid { HasCleanDisk (state S.Store conn.old) → IsTrue (state S.Store conn.old).is_open
-        → IsLaidBy F.layout (state S.Store conn.old) }
+    requires laid { WhileOpen (IsLaidBy F.layout) (state S.Store conn.old) }
     ensures known { HasCleanDisk (state S.Store conn.new)
         → OnOk result (IsFormat (state S.Store conn.old) F.number) }
     ensures cause { HasCleanDisk (state S.Store conn.new)
         → IfErr result
         (IsFor (IsNewer (state S.Store conn.old))
         (IsUnmarkedBy F.number (state S.Store conn.old))) }
-    ensures failed { HasCleanDisk (state S.Store conn.new)
-        → IfErr result
-        (OpenFailsFor (HasFailed (state S.Store conn.old) (state S.Store conn.new))) }
-    ensures open { HasCleanDisk (state S.Store conn.new)
-        → OnOk result (IsTrue (state S.Store conn.new).is_open) }
-    ensures looks { Looks (state S.Store conn.old) (state S.Store conn.new) }
+    ensures checks { Checks OpenFailsFor (state S.Store conn.old) (state S.Store conn.new) result }
 {
     match mark_of::<S, F>(conn, F::number()) {
         Ok(Mark::Own) => Ok(()),
@@ -187,19 +174,13 @@ fn check_table<S: Alter, F: Format>(
     conn: &mut Connection<S>,
     kind: Kind,
 ) -> Result<(), JournalOpenFault>
-    requires laid { HasCleanDisk (state S.Store conn.old) → IsTrue (state S.Store conn.old).is_open
-        → IsLaidBy F.layout (state S.Store conn.old) }
+    requires laid { WhileOpen (IsLaidBy F.layout) (state S.Store conn.old) }
     ensures numbered { HasCleanDisk (state S.Store conn.new)
         → OnOk result (AreNumbered ((state S.Store conn.old).now.trees (F.tree kind))) }
     ensures cause { HasCleanDisk (state S.Store conn.new)
         → IfErr result (IsFor ⊥ (IsTrue (state S.Store conn.new).is_open
         × (AreNumbered ((state S.Store conn.old).now.trees (F.tree kind)) → ⊥))) }
-    ensures failed { HasCleanDisk (state S.Store conn.new)
-        → IfErr result
-        (OpenFailsFor (HasFailed (state S.Store conn.old) (state S.Store conn.new))) }
-    ensures open { HasCleanDisk (state S.Store conn.new)
-        → OnOk result (IsTrue (state S.Store conn.new).is_open) }
-    ensures looks { Looks (state S.Store conn.old) (state S.Store conn.new) }
+    ensures checks { Checks OpenFailsFor (state S.Store conn.old) (state S.Store conn.new) result }
 {
     match ask::<S, F>(conn, F::numbers_statement(kind), &[]) {
         Ok(rows) => check_rising(rows.as_slice()),
@@ -209,19 +190,13 @@ fn check_table<S: Alter, F: Format>(
 
 /// Checks the numbers of the rows of both tables.
 fn check_numbers<S: Alter, F: Format>(conn: &mut Connection<S>) -> Result<(), JournalOpenFault>
-    requires laid { HasCleanDisk (state S.Store conn.old) → IsTrue (state S.Store conn.old).is_open
-        → IsLaidBy F.layout (state S.Store conn.old) }
+    requires laid { WhileOpen (IsLaidBy F.layout) (state S.Store conn.old) }
     ensures numbered { HasCleanDisk (state S.Store conn.new)
         → OnOk result (HasNumbersBy F.tree (state S.Store conn.old).now.trees) }
     ensures cause { HasCleanDisk (state S.Store conn.new)
         → IfErr result (IsFor ⊥ (IsTrue (state S.Store conn.new).is_open
         × (HasNumbersBy F.tree (state S.Store conn.old).now.trees → ⊥))) }
-    ensures failed { HasCleanDisk (state S.Store conn.new)
-        → IfErr result
-        (OpenFailsFor (HasFailed (state S.Store conn.old) (state S.Store conn.new))) }
-    ensures open { HasCleanDisk (state S.Store conn.new)
-        → OnOk result (IsTrue (state S.Store conn.new).is_open) }
-    ensures looks { Looks (state S.Store conn.old) (state S.Store conn.new) }
+    ensures checks { Checks OpenFailsFor (state S.Store conn.old) (state S.Store conn.new) result }
 {
     check_table::<S, F>(conn, Kind::User)?;
     check_table::<S, F>(conn, Kind::Group)
@@ -232,19 +207,13 @@ fn check_entries<S: Alter, F: Format>(
     alloc: Global,
     conn: &mut Connection<S>,
 ) -> Result<(), JournalOpenFault>
-    requires laid { HasCleanDisk (state S.Store conn.old) → IsTrue (state S.Store conn.old).is_open
-        → IsLaidBy F.layout (state S.Store conn.old) }
+    requires laid { WhileOpen (IsLaidBy F.layout) (state S.Store conn.old) }
     ensures holds { HasCleanDisk (state S.Store conn.new)
         → OnOk result (HoldsEntriesBy F.Format (state S.Store conn.old).now.trees) }
     ensures cause { HasCleanDisk (state S.Store conn.new)
         → IfErr result (IsFor ⊥ (IsTrue (state S.Store conn.new).is_open
         × (HoldsEntriesBy F.Format (state S.Store conn.old).now.trees → ⊥))) }
-    ensures failed { HasCleanDisk (state S.Store conn.new)
-        → IfErr result
-        (OpenFailsFor (HasFailed (state S.Store conn.old) (state S.Store conn.new))) }
-    ensures open { HasCleanDisk (state S.Store conn.new)
-        → OnOk result (IsTrue (state S.Store conn.new).is_open) }
-    ensures looks { Looks (state S.Store conn.old) (state S.Store conn.new) }
+    ensures checks { Checks OpenFailsFor (state S.Store conn.old) (state S.Store conn.new) result }
 {
     let users = list_entries::<S, F>(alloc, conn, Kind::User)?;
     let groups = list_entries::<S, F>(alloc, conn, Kind::Group)?;
@@ -258,20 +227,14 @@ fn check_laid<S: Alter, F: Format>(
     alloc: Global,
     conn: &mut Connection<S>,
 ) -> Result<(), JournalOpenFault>
-    requires laid { HasCleanDisk (state S.Store conn.old) → IsTrue (state S.Store conn.old).is_open
-        → IsLaidBy F.layout (state S.Store conn.old) }
+    requires laid { WhileOpen (IsLaidBy F.layout) (state S.Store conn.old) }
     ensures store { HasCleanDisk (state S.Store conn.new)
         → OnOk result ((entries : EntryMap) × IsStoreBy F.Format (state S.Store conn.old) entries) }
     ensures cause { HasCleanDisk (state S.Store conn.new)
         → IfErr result
         (IsFor (IsNewer (state S.Store conn.old))
         (ShowsDamageBy F.Format (state S.Store conn.old))) }
-    ensures failed { HasCleanDisk (state S.Store conn.new)
-        → IfErr result
-        (OpenFailsFor (HasFailed (state S.Store conn.old) (state S.Store conn.new))) }
-    ensures open { HasCleanDisk (state S.Store conn.new)
-        → OnOk result (IsTrue (state S.Store conn.new).is_open) }
-    ensures looks { Looks (state S.Store conn.old) (state S.Store conn.new) }
+    ensures checks { Checks OpenFailsFor (state S.Store conn.old) (state S.Store conn.new) result }
 {
     check_format::<S, F>(conn)?;
     check_numbers::<S, F>(conn)?;
@@ -299,12 +262,7 @@ pub(crate) fn check_tables<S: Alter, F: Format>(
         → IfErr result
         (IsFor (IsNewer (state S.Store conn.old)) (IsNotLaidBy F.layout (state S.Store conn.old)
         ⊎ IsSpoiltBy F.Format (state S.Store conn.old))) }
-    ensures failed { HasCleanDisk (state S.Store conn.new)
-        → IfErr result
-        (OpenFailsFor (HasFailed (state S.Store conn.old) (state S.Store conn.new))) }
-    ensures open { HasCleanDisk (state S.Store conn.new)
-        → OnOk result (IsTrue (state S.Store conn.new).is_open) }
-    ensures looks { Looks (state S.Store conn.old) (state S.Store conn.new) }
+    ensures checks { Checks OpenFailsFor (state S.Store conn.old) (state S.Store conn.new) result }
     ensures left { HasCleanDisk (state S.Store conn.new)
         → LeavesStore (state S.Store conn.old) (state S.Store conn.new) }
 {
@@ -355,10 +313,7 @@ fn refuse_foreign<S: Alter>(conn: &mut Connection<S>) -> Result<(), JournalOpenF
         (IsFor (IsNewer (state S.Store conn.old))
         (HasFormatTable (state S.Store conn.old).now.schema → IsNewer (state S.Store conn.old)
         → ⊥)) }
-    ensures failed { HasCleanDisk (state S.Store conn.new)
-        → IfErr result
-        (OpenFailsFor (HasFailed (state S.Store conn.old) (state S.Store conn.new))) }
-    ensures looks { Looks (state S.Store conn.old) (state S.Store conn.new) }
+    ensures checks { Checks OpenFailsFor (state S.Store conn.old) (state S.Store conn.new) result }
     ensures left { HasCleanDisk (state S.Store conn.new)
         → LeavesStore (state S.Store conn.old) (state S.Store conn.new) }
 {

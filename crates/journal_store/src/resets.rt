@@ -1,14 +1,14 @@
 //! Resets the entries by one transaction: what was learnt of the provider is forgotten.
-ghost use Rattle.std.specs.Prelude.{◌≡◌, IsTrue, OnErr, OnOk};
+ghost use Rattle.std.specs.Prelude.{◌≡◌, OnOk};
 ghost use Rattle.std.specs.List.{count_by};
 ghost use Rattle.sqlite.specs.Held.{state};
-ghost use Rattle.sqlite.specs.State.{HasCleanDisk, Survives};
+ghost use Rattle.sqlite.specs.State.{HasCleanDisk};
 ghost use Rattle.sqlite.specs.Values.{bound};
 ghost use Rattle.scim_key.specs.declared.records.Kind.TheVariants.{Group, User};
-ghost use Rattle.sql_tables.specs.Statements.{Keeps, LeavesStore};
+ghost use Rattle.sql_tables.specs.Statements.{GoesOn, WhileOpen};
 ghost use Rattle.journal_core.specs.Forgetting.{is_learnt};
 ghost use Rattle.journal_store.specs.Batches.{IsUnderWay, settled};
-ghost use Rattle.journal_store.specs.Connections.{Commits, IsLaid};
+ghost use Rattle.journal_store.specs.Connections.{ChangesOnce, Commits, IsLaid};
 ghost use Rattle.journal_store.specs.Resets.{AreListed, ForgetsOnly, IsListed, ResetsAll, ResetsOne, none_values, reset_text};
 
 use crate::batches::write_in;
@@ -57,20 +57,15 @@ fn none_params() -> [ValueRef<'static>; 2]
 /// Resets the entries of one type.
 fn reset_in<S: Alter>(tables: &mut Transaction<'_, S>, kind: Kind) -> Result<(), TableFault>
     requires under_way { IsUnderWay (state S.Store tables.old.conn.now) }
-    requires listed { HasCleanDisk (state S.Store tables.old.conn.now)
-        → IsTrue (state S.Store tables.old.conn.now).is_open
-        → IsListed kind (state S.Store tables.old.conn.now).now.trees }
+    requires listed { WhileOpen (λ s. IsListed kind s.now.trees)
+        (state S.Store tables.old.conn.now) }
     ensures same_reference { tables.new.conn.ghost_name ≡ tables.old.conn.ghost_name }
     ensures made { HasCleanDisk (state S.Store tables.new.conn.now)
         → OnOk result
         (Commits (ResetsOne kind) (settled (state S.Store tables.old.conn.now))
         (settled (state S.Store tables.new.conn.now))) }
-    ensures inside { HasCleanDisk (state S.Store tables.new.conn.now)
-        → OnOk result (IsTrue (state S.Store tables.new.conn.now).in_transaction) }
-    ensures left { HasCleanDisk (state S.Store tables.new.conn.now)
-        → LeavesStore (state S.Store tables.old.conn.now) (state S.Store tables.new.conn.now) }
-    ensures quiet { Survives (state S.Store tables.old.conn.now) (state S.Store tables.new.conn.now)
-        (λ _. ⊥) }
+    ensures goes_on { GoesOn (state S.Store tables.old.conn.now) (state S.Store tables.new.conn.now)
+        result }
 {
     write_in(tables, reset_statement(kind), &none_params())
 }
@@ -78,21 +73,15 @@ fn reset_in<S: Alter>(tables: &mut Transaction<'_, S>, kind: Kind) -> Result<(),
 /// Resets the entries of both types.
 fn reset_both<S: Alter>(tables: &mut Transaction<'_, S>) -> Result<(), TableFault>
     requires under_way { IsUnderWay (state S.Store tables.old.conn.now) }
-    requires listed { HasCleanDisk (state S.Store tables.old.conn.now)
-        → IsTrue (state S.Store tables.old.conn.now).is_open
-        → AreListed (state S.Store tables.old.conn.now).now.trees }
+    requires listed { WhileOpen (λ s. AreListed s.now.trees) (state S.Store tables.old.conn.now) }
     ensures same_reference { tables.new.conn.ghost_name ≡ tables.old.conn.ghost_name }
     ensures reset { HasCleanDisk (state S.Store tables.new.conn.now)
         → OnOk result
         (ResetsAll (state S.Store tables.old.conn.now).now.trees
         (state S.Store tables.new.conn.now).now.trees) }
-    ensures open { HasCleanDisk (state S.Store tables.new.conn.now)
-        → OnOk result (IsTrue (state S.Store tables.new.conn.now).is_open) }
     ensures under_way { OnOk result (IsUnderWay (state S.Store tables.new.conn.now)) }
-    ensures left { HasCleanDisk (state S.Store tables.new.conn.now)
-        → LeavesStore (state S.Store tables.old.conn.now) (state S.Store tables.new.conn.now) }
-    ensures quiet { Survives (state S.Store tables.old.conn.now) (state S.Store tables.new.conn.now)
-        (λ _. ⊥) }
+    ensures goes_on { GoesOn (state S.Store tables.old.conn.now) (state S.Store tables.new.conn.now)
+        result }
 {
     reset_in(tables, Kind::User)?;
     reset_in(tables, Kind::Group)
@@ -102,17 +91,10 @@ fn reset_both<S: Alter>(tables: &mut Transaction<'_, S>) -> Result<(), TableFaul
 
 /// Resets the entries by one transaction: all or none.
 pub(crate) fn reset_all<S: Alter>(conn: &mut Connection<S>) -> Result<(), TableFault>
-    requires laid { HasCleanDisk (state S.Store conn.old) → IsTrue (state S.Store conn.old).is_open
-        → IsLaid (state S.Store conn.old) }
-    requires listed { HasCleanDisk (state S.Store conn.old)
-        → IsTrue (state S.Store conn.old).is_open → AreListed (state S.Store conn.old).now.trees }
-    ensures made { HasCleanDisk (state S.Store conn.new)
-        → OnOk result (Commits ResetsAll (state S.Store conn.old) (state S.Store conn.new)) }
-    ensures keeps { HasCleanDisk (state S.Store conn.new)
-        → OnErr result (Keeps (state S.Store conn.old) (state S.Store conn.new)) }
-    ensures stop { Survives (state S.Store conn.old) (state S.Store conn.new)
-        (λ db. IsTrue (state S.Store conn.old).is_open
-        × ResetsAll (state S.Store conn.old).now.trees db) }
+    requires laid { WhileOpen IsLaid (state S.Store conn.old) }
+    requires listed { WhileOpen (λ s. AreListed s.now.trees) (state S.Store conn.old) }
+    ensures changes { ChangesOnce ResetsAll (state S.Store conn.old)
+        (state S.Store conn.new) result }
 {
     if !conn.is_autocommit() {
         return Err(TableFault::Store);

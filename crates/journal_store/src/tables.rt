@@ -1,7 +1,7 @@
 //! The statements on the tables of entries.
-ghost use Rattle.std.specs.Prelude.{◌≡◌, pos, map, true, false, MatchOption, Option, IfErr, IfOk, IsTrue, OnOk, string_bytes};
+ghost use Rattle.std.specs.Prelude.{◌≡◌, pos, map, true, false, MatchOption, Option, IfErr, IfOk, IsTrue, string_bytes};
 ghost use Rattle.sqlite.specs.Held.{state};
-ghost use Rattle.sqlite.specs.State.{HasCleanDisk, Survives};
+ghost use Rattle.sqlite.specs.State.{HasCleanDisk};
 ghost use Rattle.sqlite.specs.Values.{bound, bound_value};
 ghost use Rattle.sqlite_value.specs.Value.{owned};
 ghost use Rattle.sqlite_value.specs.declared.value.Value.TheVariants.{Int, Text};
@@ -13,8 +13,7 @@ ghost use Rattle.source_csv.specs.Rows.{text_of};
 ghost use Rattle.source_csv.specs.declared.rows.Row.TheVariants.{User, Group};
 ghost use Rattle.journal_core.specs.Entries.{entry_with};
 ghost use Rattle.journal_store.specs.Connections.{AreShownBy, IsNotNext, IsOnly, IsUnshownBy, ListsAllBy, ListsNoneBy, Shows, put_text};
-ghost use Rattle.sql_tables.specs.Statements.{Keeps};
-ghost use Rattle.sql_tables.specs.Faults.{HasFailed};
+ghost use Rattle.sql_tables.specs.Statements.{Checks, WhileOpen};
 ghost use Rattle.sql_tables.specs.Layouts.{IsLaid as IsLaidBy};
 ghost use Rattle.journal_store.specs.Faults.{FailsFor, HasCause, IsOfRow};
 ghost use Rattle.journal_store.specs.Format.{all_text, find_text, marked_text, numbers_text};
@@ -322,8 +321,7 @@ pub(crate) fn list_entries<S: Alter, F: Format>(
     conn: &mut Connection<S>,
     kind: Kind,
 ) -> Result<Vec<Entry>, TableFault>
-    requires laid { HasCleanDisk (state S.Store conn.old) → IsTrue (state S.Store conn.old).is_open
-        → IsLaidBy F.layout (state S.Store conn.old) }
+    requires laid { WhileOpen (IsLaidBy F.layout) (state S.Store conn.old) }
     ensures all { HasCleanDisk (state S.Store conn.new)
         → IfOk result
         (λ list. ListsAllBy (Shows kind) (F.columns kind)
@@ -332,13 +330,7 @@ pub(crate) fn list_entries<S: Alter, F: Format>(
         → IfErr result (HasCause (IsTrue (state S.Store conn.new).is_open
         × ListsNoneBy (Shows kind) (F.columns kind)
         ((state S.Store conn.old).now.trees (F.tree kind)))) }
-    ensures failed { HasCleanDisk (state S.Store conn.new)
-        → IfErr result (FailsFor (HasFailed (state S.Store conn.old) (state S.Store conn.new))) }
-    ensures keeps { HasCleanDisk (state S.Store conn.new)
-        → Keeps (state S.Store conn.old) (state S.Store conn.new) }
-    ensures open { HasCleanDisk (state S.Store conn.new)
-        → OnOk result (IsTrue (state S.Store conn.new).is_open) }
-    ensures quiet { Survives (state S.Store conn.old) (state S.Store conn.new) (λ _. ⊥) }
+    ensures checks { Checks FailsFor (state S.Store conn.old) (state S.Store conn.new) result }
 {
     match ask::<S, F>(conn, F::list_statement(kind), &[]) {
         Ok(rows) => read_all(alloc, kind, rows),

@@ -1,5 +1,5 @@
 -- What a table of resources holds, before and after a row is put.
-use Rattle.std.proofs.Common.{◌≡◌, ◌≢◌, ◌⊎◌, ◌==◌, ℕ, zero, suc, ◌+◌, ◌-◌, ◌<◌, ◌≤◌, pos, ℤ, Bool, true, false, cond, List, [], ◌∷◌, ◌++◌, Option, Some, None, Ok, length, filter, refl, sym, ap, ◌∙◌, subst, inl, inr, arith, length-append, rules, tests}
+use Rattle.std.proofs.Common.{◌≡◌, ◌≢◌, ◌⊎◌, ◌==◌, ℕ, zero, suc, ◌+◌, ◌-◌, ◌<◌, ◌≤◌, pos, Bool, true, false, cond, List, [], ◌∷◌, ◌++◌, Some, None, length, filter, refl, sym, ap, ◌∙◌, subst, inl, inr, arith, length-append}
 use Rattle.std.specs.Prelude.{slice_get, slice_set}
 use Rattle.std.specs.List.{find, list_any, IsDistinct}
 use Rattle.std.specs.Ordering.{int_eq}
@@ -24,7 +24,7 @@ use Rattle.provider_core.specs.Stores.{HoldsNumber}
 use Rattle.provider_core.proofs.RowLaws.{same_name-equivalence, numbers_same, find-passes}
 use Rattle.provider_core.proofs.MemoryLaws.{found-at, update-sets, apart-none}
 use Rattle.provider_core.proofs.TableLaws.{at_push}
-use Rattle.provider_store.specs.Rows.{shown_row, row_of, stored_row, IsRowOf, kind_at, record_with, record_in, record_of_kind, listed, record_at, rows_from, rows_of, Holds}
+use Rattle.provider_store.specs.Rows.{shown_row, row_of, stored_row, IsRowOf, kind_at, record_with, record_in, record_of_kind, record_at, rows_from, rows_of, Holds}
 use Rattle.sql_tables.proofs.Trees.{put_other, put_here, without_here, without_other, free, one_rowid}
 use Rattle.sql_tables.proofs.Values.{rowid_is}
 
@@ -168,10 +168,6 @@ module _ (table : List Row) (rows : List StoredRecord) (holds : Holds table rows
   pub held_rows : rows_of table ≡ rows
   unfolding rows_of
   held_rows = rest_is last_number 0 rows (λ i. ap (slice_get rows) (omega arith)) few
-
--- a table holds one list
-pub holds_one : (table : List Row) (a b : List StoredRecord) → Holds table a → Holds table b → a ≡ b
-holds_one table a b here there = sym (held_rows table a here) ∙ held_rows table b there
 
 pub holds_nothing : Holds [] []
 holds_nothing = record { numbered = tt; apart = apart-none; each = λ n s at. absurd (cc); none = λ n at. refl }

@@ -16,7 +16,7 @@ ghost use Rattle.provider_store.specs.Rows.{number_at};
 ghost use Rattle.provider_store.specs.Opening.{IsAlone, IsCause, IsDamaged, IsFor, IsNewer, IsNotLaid, IsOfRows, IsSpoilt, IsStore, IsUnmarked, LeavesNone, OpenFailsFor, OpeningFails, Stands};
 ghost use Rattle.sql_tables.specs.Faults.{HasFailed};
 ghost use Rattle.sql_tables.specs.Layouts.{IsBlank, IsFormat};
-ghost use Rattle.sql_tables.specs.Statements.{LeavesStore, Looks};
+ghost use Rattle.sql_tables.specs.Statements.{Checks, LeavesStore, Looks, WhileOpen};
 
 use crate::format::{FORMAT, Provider, is_provider};
 use crate::tables::{Found, fault_of, find_named, find_numbered, find_page};
@@ -90,8 +90,7 @@ impl From<Error> for RegistryOpenFault {
 /// Makes the tables and the row of the format, all or none.
 fn make_tables<S: Alter>(conn: &mut Connection<S>) -> Result<(), Error>
     requires outside { (state S.Store conn.old).in_transaction ≡ false }
-    requires blank { HasCleanDisk (state S.Store conn.old) → IsTrue (state S.Store conn.old).is_open
-        → IsBlank (state S.Store conn.old) }
+    requires blank { WhileOpen IsBlank (state S.Store conn.old) }
     ensures made { HasCleanDisk (state S.Store conn.new)
         → OnOk result (IsTrue (state S.Store conn.new).is_open × IsBlank (state S.Store conn.old)
         × IsStore (state S.Store conn.new) []) }
@@ -117,8 +116,7 @@ fn make_tables<S: Alter>(conn: &mut Connection<S>) -> Result<(), Error>
 
 /// Checks the number of the format.
 fn check_format<S: Alter>(conn: &mut Connection<S>) -> Result<(), RegistryOpenFault>
-    requires laid { HasCleanDisk (state S.Store conn.old) → IsTrue (state S.Store conn.old).is_open
-        → IsLaid (state S.Store conn.old) }
+    requires laid { WhileOpen IsLaid (state S.Store conn.old) }
     ensures known { HasCleanDisk (state S.Store conn.new)
         → OnOk result (IsFormat (state S.Store conn.old) format_number) }
     ensures cause { HasCleanDisk (state S.Store conn.new)
@@ -128,12 +126,7 @@ fn check_format<S: Alter>(conn: &mut Connection<S>) -> Result<(), RegistryOpenFa
         → IfErr result
         (IsFor (IsTrue (state S.Store conn.new).is_open)
         (λ _. IsTrue (state S.Store conn.new).is_open)) }
-    ensures open { HasCleanDisk (state S.Store conn.new)
-        → OnOk result (IsTrue (state S.Store conn.new).is_open) }
-    ensures failed { HasCleanDisk (state S.Store conn.new)
-        → IfErr result
-        (OpenFailsFor (HasFailed (state S.Store conn.old) (state S.Store conn.new))) }
-    ensures looks { Looks (state S.Store conn.old) (state S.Store conn.new) }
+    ensures checks { Checks OpenFailsFor (state S.Store conn.old) (state S.Store conn.new) result }
 {
     match find_mark::<S, Provider>(conn, "SELECT number FROM provider_format", FORMAT) {
         Ok(Mark::Own) => Ok(()),
@@ -151,8 +144,7 @@ fn check_row<S: Alter>(
     conn: &mut Connection<S>,
     number: u32,
 ) -> Result<bool, RegistryOpenFault>
-    requires laid { HasCleanDisk (state S.Store conn.old) → IsTrue (state S.Store conn.old).is_open
-        → IsLaid (state S.Store conn.old) }
+    requires laid { WhileOpen IsLaid (state S.Store conn.old) }
     ensures lawful { HasCleanDisk (state S.Store conn.new)
         → IfOk result (λ is. IsTrue is → IsLawfulAt (resources (state S.Store conn.old)) number) }
     ensures absent { HasCleanDisk (state S.Store conn.new)
@@ -161,12 +153,7 @@ fn check_row<S: Alter>(
     ensures cause { HasCleanDisk (state S.Store conn.new)
         → IfErr result (IsFor ⊥ (λ told. IsTrue (state S.Store conn.new).is_open × (told ≡ number)
         × IsWrong (resources (state S.Store conn.old)) number)) }
-    ensures open { HasCleanDisk (state S.Store conn.new)
-        → OnOk result (IsTrue (state S.Store conn.new).is_open) }
-    ensures failed { HasCleanDisk (state S.Store conn.new)
-        → IfErr result
-        (OpenFailsFor (HasFailed (state S.Store conn.old) (state S.Store conn.new))) }
-    ensures looks { Looks (state S.Store conn.old) (state S.Store conn.new) }
+    ensures checks { Checks OpenFailsFor (state S.Store conn.old) (state S.Store conn.new) result }
 {
     match find_numbered(alloc, conn, number)? {
         Found::There(row) => {
@@ -184,8 +171,7 @@ fn check_name<S: Alter>(
     conn: &mut Connection<S>,
     row: &Stored,
 ) -> Result<(), RegistryOpenFault>
-    requires laid { HasCleanDisk (state S.Store conn.old) → IsTrue (state S.Store conn.old).is_open
-        → IsLaid (state S.Store conn.old) }
+    requires laid { WhileOpen IsLaid (state S.Store conn.old) }
     ensures alone { HasCleanDisk (state S.Store conn.new)
         → OnOk result
         (IsAlone (resources (state S.Store conn.old)) (content_name row.now.content)) }
@@ -197,12 +183,7 @@ fn check_name<S: Alter>(
         → IfErr result (IsFor ⊥ (λ told. IsTrue (state S.Store conn.new).is_open
         × (told ≡ row.now.number)
         × NoneNamed (resources (state S.Store conn.old)) (content_name row.now.content))) }
-    ensures open { HasCleanDisk (state S.Store conn.new)
-        → OnOk result (IsTrue (state S.Store conn.new).is_open) }
-    ensures failed { HasCleanDisk (state S.Store conn.new)
-        → IfErr result
-        (OpenFailsFor (HasFailed (state S.Store conn.old) (state S.Store conn.new))) }
-    ensures looks { Looks (state S.Store conn.old) (state S.Store conn.new) }
+    ensures checks { Checks OpenFailsFor (state S.Store conn.old) (state S.Store conn.new) result }
 {
     let name = row.content().name(alloc)?;
     match find_named(alloc, conn, &name)? {
@@ -217,8 +198,7 @@ fn check_from<S: Alter>(
     conn: &mut Connection<S>,
     from: u32,
 ) -> Result<u32, RegistryOpenFault>
-    requires laid { HasCleanDisk (state S.Store conn.old) → IsTrue (state S.Store conn.old).is_open
-        → IsLaid (state S.Store conn.old) }
+    requires laid { WhileOpen IsLaid (state S.Store conn.old) }
     requires within { from ≤ last_number }
     requires before { HasCleanDisk (state S.Store conn.old)
         → AreLawfulTo (resources (state S.Store conn.old)) from }
@@ -244,19 +224,13 @@ fn check_from<S: Alter>(
 
 /// Whether each row has a number. SQLite gives one to each row, but its contracts don't say so.
 fn are_numbered<S: Alter>(conn: &mut Connection<S>) -> Result<bool, RegistryOpenFault>
-    requires laid { HasCleanDisk (state S.Store conn.old) → IsTrue (state S.Store conn.old).is_open
-        → IsLaid (state S.Store conn.old) }
+    requires laid { WhileOpen IsLaid (state S.Store conn.old) }
     ensures all { HasCleanDisk (state S.Store conn.new)
         → IfOk result (λ are. IsTrue are → AreNumbered (resources (state S.Store conn.old))) }
     ensures some { HasCleanDisk (state S.Store conn.new)
         → IfOk result (λ are. are ≡ false → AreNumbered (resources (state S.Store conn.old)) → ⊥) }
     ensures cause { IfErr result (IsFor ⊥ (λ _. ⊥)) }
-    ensures open { HasCleanDisk (state S.Store conn.new)
-        → OnOk result (IsTrue (state S.Store conn.new).is_open) }
-    ensures failed { HasCleanDisk (state S.Store conn.new)
-        → IfErr result
-        (OpenFailsFor (HasFailed (state S.Store conn.old) (state S.Store conn.new))) }
-    ensures looks { Looks (state S.Store conn.old) (state S.Store conn.new) }
+    ensures checks { Checks OpenFailsFor (state S.Store conn.old) (state S.Store conn.new) result }
 {
     match ask::<S, Provider>(
         conn,
@@ -279,10 +253,8 @@ fn page_end(after: u32, page: &[Stored], last: u32) -> u32
 /// Checks the rows by pages, and returns how many follow each other from 1, up to a page that is broken. It
 /// looks up no name, because kind and key are unique in sound tables.
 fn check_pages<S: Alter>(alloc: Global, conn: &mut Connection<S>) -> Result<u32, RegistryOpenFault>
-    requires laid { HasCleanDisk (state S.Store conn.old) → IsTrue (state S.Store conn.old).is_open
-        → IsLaid (state S.Store conn.old) }
-    requires sound { HasCleanDisk (state S.Store conn.old) → IsTrue (state S.Store conn.old).is_open
-        → IsDatabase (state S.Store conn.old).now }
+    requires laid { WhileOpen IsLaid (state S.Store conn.old) }
+    requires sound { WhileOpen (λ s. IsDatabase s.now) (state S.Store conn.old) }
     requires numbered { HasCleanDisk (state S.Store conn.old)
         → AreNumbered (resources (state S.Store conn.old)) }
     requires open { HasCleanDisk (state S.Store conn.old)
@@ -294,12 +266,7 @@ fn check_pages<S: Alter>(alloc: Global, conn: &mut Connection<S>) -> Result<u32,
         → IfOk result (λ count. EndsAt (resources (state S.Store conn.old)) count
         ⊎ ((last : ℕ) × IsBroken (resources (state S.Store conn.old)) count last)) }
     ensures cause { IfErr result (IsFor ⊥ (λ _. ⊥)) }
-    ensures open { HasCleanDisk (state S.Store conn.new)
-        → OnOk result (IsTrue (state S.Store conn.new).is_open) }
-    ensures failed { HasCleanDisk (state S.Store conn.new)
-        → IfErr result
-        (OpenFailsFor (HasFailed (state S.Store conn.old) (state S.Store conn.new))) }
-    ensures looks { Looks (state S.Store conn.old) (state S.Store conn.new) }
+    ensures checks { Checks OpenFailsFor (state S.Store conn.old) (state S.Store conn.new) result }
 {
     let mut count = 0;
     while count < LAST_NUMBER {
@@ -317,10 +284,8 @@ fn check_pages<S: Alter>(alloc: Global, conn: &mut Connection<S>) -> Result<u32,
 
 /// Checks the rows in order of their numbers, and returns how many follow each other from 1.
 fn check_rows<S: Alter>(alloc: Global, conn: &mut Connection<S>) -> Result<u32, RegistryOpenFault>
-    requires laid { HasCleanDisk (state S.Store conn.old) → IsTrue (state S.Store conn.old).is_open
-        → IsLaid (state S.Store conn.old) }
-    requires sound { HasCleanDisk (state S.Store conn.old) → IsTrue (state S.Store conn.old).is_open
-        → IsDatabase (state S.Store conn.old).now }
+    requires laid { WhileOpen IsLaid (state S.Store conn.old) }
+    requires sound { WhileOpen (λ s. IsDatabase s.now) (state S.Store conn.old) }
     ensures lawful { HasCleanDisk (state S.Store conn.new)
         → IfOk result (AreLawfulTo (resources (state S.Store conn.old))) }
     ensures ends { HasCleanDisk (state S.Store conn.new)
@@ -342,8 +307,7 @@ fn check_rows<S: Alter>(alloc: Global, conn: &mut Connection<S>) -> Result<u32, 
 
 /// Checks that there is no row other than the first `count`.
 fn check_rest<S: Alter>(conn: &mut Connection<S>, count: u32) -> Result<(), RegistryOpenFault>
-    requires laid { HasCleanDisk (state S.Store conn.old) → IsTrue (state S.Store conn.old).is_open
-        → IsLaid (state S.Store conn.old) }
+    requires laid { WhileOpen IsLaid (state S.Store conn.old) }
     ensures none { HasCleanDisk (state S.Store conn.new)
         → OnOk result ((n : ℕ) → count < n
         → filter (has_rowid (pos n)) (resources (state S.Store conn.old)) ≡ []) }
@@ -352,12 +316,7 @@ fn check_rest<S: Alter>(conn: &mut Connection<S>, count: u32) -> Result<(), Regi
     ensures cause { HasCleanDisk (state S.Store conn.new)
         → IfErr result (IsFor ⊥ (λ told. IsTrue (state S.Store conn.new).is_open
         × IsOutside (resources (state S.Store conn.old)) count told)) }
-    ensures open { HasCleanDisk (state S.Store conn.new)
-        → OnOk result (IsTrue (state S.Store conn.new).is_open) }
-    ensures failed { HasCleanDisk (state S.Store conn.new)
-        → IfErr result
-        (OpenFailsFor (HasFailed (state S.Store conn.old) (state S.Store conn.new))) }
-    ensures looks { Looks (state S.Store conn.old) (state S.Store conn.new) }
+    ensures checks { Checks OpenFailsFor (state S.Store conn.old) (state S.Store conn.new) result }
 {
     match ask::<S, Provider>(
         conn,
@@ -386,22 +345,15 @@ fn none_in(rows: &[Row]) -> Result<(), RegistryOpenFault>
 
 /// Checks the format and each row, and returns how many rows there are.
 fn check_laid<S: Alter>(alloc: Global, conn: &mut Connection<S>) -> Result<u32, RegistryOpenFault>
-    requires laid { HasCleanDisk (state S.Store conn.old) → IsTrue (state S.Store conn.old).is_open
-        → IsLaid (state S.Store conn.old) }
-    requires sound { HasCleanDisk (state S.Store conn.old) → IsTrue (state S.Store conn.old).is_open
-        → IsDatabase (state S.Store conn.old).now }
+    requires laid { WhileOpen IsLaid (state S.Store conn.old) }
+    requires sound { WhileOpen (λ s. IsDatabase s.now) (state S.Store conn.old) }
     ensures store { HasCleanDisk (state S.Store conn.new)
         → IfOk result (λ count. (rows : List StoredRecord) × IsStore (state S.Store conn.old) rows
         × (length rows ≡ count)) }
     ensures cause { HasCleanDisk (state S.Store conn.new)
         → IfErr result
         (IsFor (IsNewer (state S.Store conn.old)) (IsSpoilt (state S.Store conn.old))) }
-    ensures open { HasCleanDisk (state S.Store conn.new)
-        → OnOk result (IsTrue (state S.Store conn.new).is_open) }
-    ensures failed { HasCleanDisk (state S.Store conn.new)
-        → IfErr result
-        (OpenFailsFor (HasFailed (state S.Store conn.old) (state S.Store conn.new))) }
-    ensures looks { Looks (state S.Store conn.old) (state S.Store conn.new) }
+    ensures checks { Checks OpenFailsFor (state S.Store conn.old) (state S.Store conn.new) result }
 {
     check_format(conn)?;
     let count = check_rows(alloc, conn)?;
@@ -432,12 +384,7 @@ pub(crate) fn check_tables<S: Alter>(
         → IfErr result (IsFor (IsNewer (state S.Store conn.old)) (λ told. ((told ≡ 0)
         × IsNotLaid (state S.Store conn.old))
         ⊎ IsSpoilt (state S.Store conn.old) told)) }
-    ensures open { HasCleanDisk (state S.Store conn.new)
-        → OnOk result (IsTrue (state S.Store conn.new).is_open) }
-    ensures failed { HasCleanDisk (state S.Store conn.new)
-        → IfErr result
-        (OpenFailsFor (HasFailed (state S.Store conn.old) (state S.Store conn.new))) }
-    ensures looks { Looks (state S.Store conn.old) (state S.Store conn.new) }
+    ensures checks { Checks OpenFailsFor (state S.Store conn.old) (state S.Store conn.new) result }
     ensures left { HasCleanDisk (state S.Store conn.new)
         → LeavesStore (state S.Store conn.old) (state S.Store conn.new) }
 {

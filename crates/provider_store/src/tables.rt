@@ -1,18 +1,15 @@
 //! The tables, and the statements on them.
-ghost use Rattle.std.specs.Prelude.{◌≡◌, ℕ, suc, pos, false, List, Ok, IfErr, IfNone, IfOk, IfSome, OnOk, OnErr, IsTrue};
+ghost use Rattle.std.specs.Prelude.{◌≡◌, suc, pos, false, List, Ok, IfNone, IfOk, IfSome, OnOk, OnErr, IsTrue};
 ghost use Rattle.sqlite_value.specs.declared.value.Value.TheVariants.{Int, Text};
-ghost use Rattle.sqlite_value.specs.Order.{column};
 ghost use Rattle.sqlite.specs.Held.{state};
 ghost use Rattle.sqlite.specs.State.{HasCleanDisk, Survives};
-ghost use Rattle.sqlite.specs.Values.{bound};
 ghost use Rattle.scim_resource.specs.Contents.{content_kind, content_name};
 ghost use Rattle.scim_resource.specs.Reading.{content_in};
 ghost use Rattle.scim_resource.specs.Rows.{IsStored, StoredRecord};
 ghost use Rattle.provider_store.specs.Faults.{FailsFor, statement_fault};
 ghost use Rattle.provider_store.specs.Rows.{IsRowOf, kind_code};
 ghost use Rattle.provider_store.specs.Connections.{AreRowsFrom, FindsName, FindsNumber, HoldsPage, IsBroken, IsLaid, IsOnly, IsThere, Leaves, Makes, added, content_text, renewed, resources};
-ghost use Rattle.sql_tables.specs.Faults.{HasFailed};
-ghost use Rattle.sql_tables.specs.Statements.{Keeps};
+ghost use Rattle.sql_tables.specs.Statements.{Checks, Keeps, WhileOpen};
 
 use crate::format::Provider;
 use provider_core::RegistryFault;
@@ -161,17 +158,10 @@ pub(crate) fn find_numbered<S: Alter>(
     conn: &mut Connection<S>,
     number: u32,
 ) -> Result<Found, RegistryFault>
-    requires laid { HasCleanDisk (state S.Store conn.old) → IsTrue (state S.Store conn.old).is_open
-        → IsLaid (state S.Store conn.old) }
+    requires laid { WhileOpen IsLaid (state S.Store conn.old) }
     ensures found { HasCleanDisk (state S.Store conn.new)
         → IfOk result (FindsNumber (resources (state S.Store conn.old)) number) }
-    ensures failed { HasCleanDisk (state S.Store conn.new)
-        → IfErr result (FailsFor (HasFailed (state S.Store conn.old) (state S.Store conn.new))) }
-    ensures keeps { HasCleanDisk (state S.Store conn.new)
-        → Keeps (state S.Store conn.old) (state S.Store conn.new) }
-    ensures open { HasCleanDisk (state S.Store conn.new)
-        → OnOk result (IsTrue (state S.Store conn.new).is_open) }
-    ensures quiet { Survives (state S.Store conn.old) (state S.Store conn.new) (λ _. ⊥) }
+    ensures checks { Checks FailsFor (state S.Store conn.old) (state S.Store conn.new) result }
 {
     match ask::<S, Provider>(
         conn,
@@ -214,8 +204,7 @@ pub(crate) fn find_page<S: Alter>(
     after: u32,
     last: u32,
 ) -> Result<Option<Vec<Stored>>, RegistryFault>
-    requires laid { HasCleanDisk (state S.Store conn.old) → IsTrue (state S.Store conn.old).is_open
-        → IsLaid (state S.Store conn.old) }
+    requires laid { WhileOpen IsLaid (state S.Store conn.old) }
     ensures found { HasCleanDisk (state S.Store conn.new)
         → IfOk result
         (λ page. IfSome page
@@ -223,13 +212,7 @@ pub(crate) fn find_page<S: Alter>(
     ensures broken { HasCleanDisk (state S.Store conn.new)
         → IfOk result
         (λ page. IfNone page (IsBroken (resources (state S.Store conn.old)) after last)) }
-    ensures failed { HasCleanDisk (state S.Store conn.new)
-        → IfErr result (FailsFor (HasFailed (state S.Store conn.old) (state S.Store conn.new))) }
-    ensures keeps { HasCleanDisk (state S.Store conn.new)
-        → Keeps (state S.Store conn.old) (state S.Store conn.new) }
-    ensures open { HasCleanDisk (state S.Store conn.new)
-        → OnOk result (IsTrue (state S.Store conn.new).is_open) }
-    ensures quiet { Survives (state S.Store conn.old) (state S.Store conn.new) (λ _. ⊥) }
+    ensures checks { Checks FailsFor (state S.Store conn.old) (state S.Store conn.new) result }
 {
     match ask::<S, Provider>(
         conn,
@@ -250,17 +233,10 @@ pub(crate) fn find_named<S: Alter>(
     conn: &mut Connection<S>,
     name: &RecordName,
 ) -> Result<Found, RegistryFault>
-    requires laid { HasCleanDisk (state S.Store conn.old) → IsTrue (state S.Store conn.old).is_open
-        → IsLaid (state S.Store conn.old) }
+    requires laid { WhileOpen IsLaid (state S.Store conn.old) }
     ensures found { HasCleanDisk (state S.Store conn.new)
         → IfOk result (FindsName (resources (state S.Store conn.old)) name.now) }
-    ensures failed { HasCleanDisk (state S.Store conn.new)
-        → IfErr result (FailsFor (HasFailed (state S.Store conn.old) (state S.Store conn.new))) }
-    ensures keeps { HasCleanDisk (state S.Store conn.new)
-        → Keeps (state S.Store conn.old) (state S.Store conn.new) }
-    ensures open { HasCleanDisk (state S.Store conn.new)
-        → OnOk result (IsTrue (state S.Store conn.new).is_open) }
-    ensures quiet { Survives (state S.Store conn.old) (state S.Store conn.new) (λ _. ⊥) }
+    ensures checks { Checks FailsFor (state S.Store conn.old) (state S.Store conn.new) result }
 {
     match ask::<S, Provider>(
         conn,
@@ -290,8 +266,7 @@ pub(crate) fn insert_row<S: Alter>(
     conn: &mut Connection<S>,
     row: &Stored,
 ) -> Result<(), RegistryFault>
-    requires laid { HasCleanDisk (state S.Store conn.old) → IsTrue (state S.Store conn.old).is_open
-        → IsLaid (state S.Store conn.old) }
+    requires laid { WhileOpen IsLaid (state S.Store conn.old) }
     ensures made { HasCleanDisk (state S.Store conn.new)
         → OnOk result
         (Makes (state S.Store conn.old) (state S.Store conn.new) row.now
@@ -326,10 +301,8 @@ pub(crate) fn update_row<S: Alter>(
     conn: &mut Connection<S>,
     row: &Stored,
 ) -> Result<(), RegistryFault>
-    requires laid { HasCleanDisk (state S.Store conn.old) → IsTrue (state S.Store conn.old).is_open
-        → IsLaid (state S.Store conn.old) }
-    requires there { HasCleanDisk (state S.Store conn.old) → IsTrue (state S.Store conn.old).is_open
-        → IsThere (resources (state S.Store conn.old)) row.now }
+    requires laid { WhileOpen IsLaid (state S.Store conn.old) }
+    requires there { WhileOpen (λ s. IsThere (resources s) row.now) (state S.Store conn.old) }
     ensures made { HasCleanDisk (state S.Store conn.new)
         → OnOk result
         (Makes (state S.Store conn.old) (state S.Store conn.new) row.now

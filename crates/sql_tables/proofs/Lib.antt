@@ -9,6 +9,7 @@ pub mod Leaving
 pub mod Looking
 pub mod Asking
 pub mod Failing
+pub mod Checking
 pub mod Selecting
 pub mod Answering
 pub mod Editing

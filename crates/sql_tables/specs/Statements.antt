@@ -1,5 +1,5 @@
 -- What the statements require of a connection, and what they leave of it.
-use Rattle.std.specs.Prelude.{◌≡◌, ◌≤◌, ℕ, false, List, [], ◌∷◌, Option, None, Ok, IsSome, IsTrue, IsPermutation, length, map, unwrap_or}
+use Rattle.std.specs.Prelude.{◌≡◌, ◌≤◌, ℕ, false, List, [], ◌∷◌, Option, None, Result, Ok, IfErr, OnOk, IsSome, IsTrue, IsPermutation, length, map, unwrap_or}
 use Rattle.sqlite_value.specs.Order.{Row, column}
 use Rattle.sqlite_trees.specs.Tree.{Trees}
 use Rattle.sqlite_resolve.specs.declared.compiled.Compiled.{Compiled}
@@ -14,7 +14,18 @@ use Rattle.sqlite.specs.State.{State, HasCleanDisk, Survives}
 use Rattle.sqlite.specs.Does.{Tally, Does}
 use Rattle.sqlite.specs.declared.error.Error.{Error}
 use Rattle.sqlite.specs.declared.run.Mode.{Mode}
+use Rattle.sql_tables.specs.Faults.{FailsFor, HasFailed, statement_fault}
 use Rattle.sql_tables.specs.Layouts.{format_tree}
+
+-- ---- what a call is given
+
+-- this holds of a connection that is open, over a disk that returns what was written
+abbrev pub WhileOpen : (State → Type 0) → State → Type 0
+WhileOpen Holds s = HasCleanDisk s → IsTrue s.is_open → Holds s
+
+-- a transaction is open, if the disk returns what was written
+abbrev pub IsInside : State → Type 0
+IsInside s = HasCleanDisk s → IsTrue s.in_transaction
 
 -- ---- what a call leaves
 
@@ -29,10 +40,30 @@ pub record Looks (old new : State) : Type 0 where
   pub keeps : HasCleanDisk new → Keeps old new
   pub quiet : Survives old new (λ _. ⊥)
 
+-- A call that only looks at the tables. If it succeeds, the connection is open; a fault that says that the store failed
+-- has its cause. How a fault says so is given
+pub record Checks {T F : Type 0} (FaultFailsFor : (failure : Type 0) → F → Type 0) (old new : State)
+    (result : Result T F) : Type 0 where
+  pub failed : HasCleanDisk new → IfErr result (FaultFailsFor (HasFailed old new))
+  pub is_open : HasCleanDisk new → OnOk result (IsTrue new.is_open)
+  pub looks : Looks old new
+
+-- an error of SQLite that says that the store failed has this cause
+abbrev pub ErrorFailsFor : (failure : Type 0) → Error → Type 0
+ErrorFailsFor failure error = FailsFor failure (statement_fault error)
+
 -- what was committed stays
 pub record LeavesStore (old new : State) : Type 0 where
   pub was_open : IsTrue new.is_open → IsTrue old.is_open
   pub committed : IsTrue new.is_open → new.committed ≡ old.committed
+
+-- A call inside a transaction. What was committed stays, also after a stop; if the call succeeds, the connection is
+-- open, and the transaction goes on
+pub record GoesOn {T F : Type 0} (old new : State) (result : Result T F) : Type 0 where
+  pub is_open : HasCleanDisk new → OnOk result (IsTrue new.is_open)
+  pub inside : HasCleanDisk new → OnOk result (IsTrue new.in_transaction)
+  pub left : HasCleanDisk new → LeavesStore old new
+  pub quiet : Survives old new (λ _. ⊥)
 
 -- ---- a query
 

@@ -1,10 +1,9 @@
 //! The row that has the number of the format.
-ghost use Rattle.std.specs.Prelude.{[], IfErr, IfOk, OnOk, IsTrue};
+ghost use Rattle.std.specs.Prelude.{[], IfOk};
 ghost use Rattle.sqlite.specs.Held.{state};
-ghost use Rattle.sqlite.specs.State.{HasCleanDisk, Survives};
-ghost use Rattle.sql_tables.specs.Faults.{FailsFor, HasFailed, statement_fault};
+ghost use Rattle.sqlite.specs.State.{HasCleanDisk};
 ghost use Rattle.sql_tables.specs.Layouts.{IsFormat, IsLaid, IsMark, IsMarked};
-ghost use Rattle.sql_tables.specs.Statements.{IsGiven, IsQuery, Keeps, ShowsFormat};
+ghost use Rattle.sql_tables.specs.Statements.{Checks, ErrorFailsFor, IsGiven, IsQuery, ShowsFormat, WhileOpen};
 
 use crate::columns::number_at;
 use crate::statements::{Layout, ask};
@@ -28,19 +27,10 @@ pub fn find_mark<S: Alter, L: Layout>(
     requires query { IsQuery L.layout sql.now }
     requires given { IsGiven L.layout sql.now [] }
     requires shows { ShowsFormat L.layout sql.now }
-    requires laid { HasCleanDisk (state S.Store conn.old) → IsTrue (state S.Store conn.old).is_open
-        → IsLaid L.layout (state S.Store conn.old) }
+    requires laid { WhileOpen (IsLaid L.layout) (state S.Store conn.old) }
     ensures mark { HasCleanDisk (state S.Store conn.new)
         → IfOk result (IsMark (IsFormat (state S.Store conn.old)) own) }
-    ensures failed { HasCleanDisk (state S.Store conn.new)
-        → IfErr result
-        (λ e. FailsFor (HasFailed (state S.Store conn.old) (state S.Store conn.new))
-        (statement_fault e)) }
-    ensures keeps { HasCleanDisk (state S.Store conn.new)
-        → Keeps (state S.Store conn.old) (state S.Store conn.new) }
-    ensures open { HasCleanDisk (state S.Store conn.new)
-        → OnOk result (IsTrue (state S.Store conn.new).is_open) }
-    ensures quiet { Survives (state S.Store conn.old) (state S.Store conn.new) (λ _. ⊥) }
+    ensures checks { Checks ErrorFailsFor (state S.Store conn.old) (state S.Store conn.new) result }
 {
     let rows = ask::<S, L>(conn, sql, &[])?;
     Ok(mark_in(rows.as_slice(), own))

@@ -1,12 +1,11 @@
 //! Queries and writes on the tables of a layout.
-ghost use Rattle.std.specs.Prelude.{◌≡◌, Err, IfErr, IfOk, OnOk, OnErr, IsTrue};
+ghost use Rattle.std.specs.Prelude.{◌≡◌, Err, IfErr, IfOk, OnOk, OnErr};
 ghost use Rattle.sqlite.specs.Held.{state};
 ghost use Rattle.sqlite.specs.State.{Executes, FailsToQuery, HasCleanDisk, Survives};
 ghost use Rattle.sqlite.specs.Values.{bound};
 ghost use Rattle.sqlite_schema.specs.declared.schema.Schema.{Schema as SchemaData};
-ghost use Rattle.sql_tables.specs.Faults.{FailsFor, HasFailed, statement_fault};
 ghost use Rattle.sql_tables.specs.Layouts.{IsLaid};
-ghost use Rattle.sql_tables.specs.Statements.{Answers, IsEditText, IsGiven, IsQuery, Keeps, MayLeave, Ran, RanOn};
+ghost use Rattle.sql_tables.specs.Statements.{Answers, Checks, ErrorFailsFor, IsEditText, IsGiven, IsQuery, Keeps, MayLeave, Ran, RanOn, WhileOpen};
 
 use sqlite::{Alter, Connection, Error, ErrorCode, Row};
 use sqlite_value::value::ValueRef;
@@ -46,8 +45,7 @@ pub fn ask<S: Alter, L: Layout>(
 ) -> Result<Vec<Row>, Error>
     requires query { IsQuery L.layout sql.now }
     requires given { IsGiven L.layout sql.now (bound params.now) }
-    requires laid { HasCleanDisk (state S.Store conn.old) → IsTrue (state S.Store conn.old).is_open
-        → IsLaid L.layout (state S.Store conn.old) }
+    requires laid { WhileOpen (IsLaid L.layout) (state S.Store conn.old) }
     ensures rows { HasCleanDisk (state S.Store conn.new)
         → IfOk result
         (λ rows. Answers sql.now (bound params.now) (state S.Store conn.old) rows.items) }
@@ -55,15 +53,7 @@ pub fn ask<S: Alter, L: Layout>(
         → IfErr result
         (FailsToQuery sql.now (bound params.now) (state S.Store conn.old)
         (state S.Store conn.new)) }
-    ensures failed { HasCleanDisk (state S.Store conn.new)
-        → IfErr result
-        (λ e. FailsFor (HasFailed (state S.Store conn.old) (state S.Store conn.new))
-        (statement_fault e)) }
-    ensures keeps { HasCleanDisk (state S.Store conn.new)
-        → Keeps (state S.Store conn.old) (state S.Store conn.new) }
-    ensures open { HasCleanDisk (state S.Store conn.new)
-        → OnOk result (IsTrue (state S.Store conn.new).is_open) }
-    ensures quiet { Survives (state S.Store conn.old) (state S.Store conn.new) (λ _. ⊥) }
+    ensures checks { Checks ErrorFailsFor (state S.Store conn.old) (state S.Store conn.new) result }
 {
     let statement = conn.prepare(sql)?;
     statement.query_all(conn, params)
@@ -76,8 +66,7 @@ pub fn write<S: Alter, L: Layout>(
     params: &[ValueRef<'_>],
 ) -> Result<usize, Error>
     requires edit { IsEditText L.layout sql.now }
-    requires laid { HasCleanDisk (state S.Store conn.old) → IsTrue (state S.Store conn.old).is_open
-        → IsLaid L.layout (state S.Store conn.old) }
+    requires laid { WhileOpen (IsLaid L.layout) (state S.Store conn.old) }
     ensures ran { HasCleanDisk (state S.Store conn.new)
         → OnOk result
         (Ran sql.now (bound params.now) (state S.Store conn.old) (state S.Store conn.new)) }

@@ -7,7 +7,7 @@ ghost use Rattle.scim_key.specs.declared.records.Kind.{Kind as KindData};
 ghost use Rattle.scim_key.specs.declared.records.Kind.TheVariants.{User};
 ghost use Rattle.journal_core.specs.Entries.{EntryMap};
 ghost use Rattle.sql_tables.specs.Layouts.{IsBlank};
-ghost use Rattle.sql_tables.specs.Statements.{LeavesStore};
+ghost use Rattle.sql_tables.specs.Statements.{GoesOn, IsInside, LeavesStore, WhileOpen};
 ghost use Rattle.journal_store.specs.Batches.{settled};
 ghost use Rattle.journal_store.specs.Older.Format.{first_tree, second_tree};
 ghost use Rattle.journal_store.specs.Opening.{AreEmptied, IsFirstStore, IsSecondStore, IsStore, IsStoreBy, LeavesCarriedBy};
@@ -24,22 +24,13 @@ use sqlite_value::value::ValueRef;
 
 /// Makes the tables of the first format, with the row of its number.
 pub(crate) fn make_first<S: Alter>(tables: &mut Transaction<'_, S>) -> Result<(), Error>
-    requires inside { HasCleanDisk (state S.Store tables.old.conn.now)
-        → IsTrue (state S.Store tables.old.conn.now).in_transaction }
-    requires blank { HasCleanDisk (state S.Store tables.old.conn.now)
-        → IsTrue (state S.Store tables.old.conn.now).is_open
-        → IsBlank (settled (state S.Store tables.old.conn.now)) }
+    requires inside { IsInside (state S.Store tables.old.conn.now) }
+    requires blank { WhileOpen (λ s. IsBlank (settled s)) (state S.Store tables.old.conn.now) }
     ensures same_reference { tables.new.conn.ghost_name ≡ tables.old.conn.ghost_name }
     ensures made { HasCleanDisk (state S.Store tables.new.conn.now)
         → OnOk result (IsFirstStore (settled (state S.Store tables.new.conn.now)) empty) }
-    ensures open { HasCleanDisk (state S.Store tables.new.conn.now)
-        → OnOk result (IsTrue (state S.Store tables.new.conn.now).is_open) }
-    ensures inside { HasCleanDisk (state S.Store tables.new.conn.now)
-        → OnOk result (IsTrue (state S.Store tables.new.conn.now).in_transaction) }
-    ensures left { HasCleanDisk (state S.Store tables.new.conn.now)
-        → LeavesStore (state S.Store tables.old.conn.now) (state S.Store tables.new.conn.now) }
-    ensures quiet { Survives (state S.Store tables.old.conn.now) (state S.Store tables.new.conn.now)
-        (λ _. ⊥) }
+    ensures goes_on { GoesOn (state S.Store tables.old.conn.now) (state S.Store tables.new.conn.now)
+        result }
 {
     tables.execute(
         "CREATE TABLE IF NOT EXISTS journal_format (one INTEGER PRIMARY KEY CHECK (one = 1), number INTEGER NOT NULL)",
@@ -76,11 +67,9 @@ fn one_changed(count: usize) -> Result<(), Error>
 /// Carries the tables of the first format over to the second one. `QueryReturnedNoRows` says that the row of the
 /// format isn't numbered 1.
 fn carry_first<S: Alter>(tables: &mut Transaction<'_, S>) -> Result<(), Error>
-    requires inside { HasCleanDisk (state S.Store tables.old.conn.now)
-        → IsTrue (state S.Store tables.old.conn.now).in_transaction }
-    requires first { HasCleanDisk (state S.Store tables.old.conn.now)
-        → IsTrue (state S.Store tables.old.conn.now).is_open → (entries : EntryMap)
-        × IsFirstStore (settled (state S.Store tables.old.conn.now)) entries }
+    requires inside { IsInside (state S.Store tables.old.conn.now) }
+    requires first { WhileOpen (λ s. (entries : EntryMap) × IsFirstStore (settled s) entries)
+        (state S.Store tables.old.conn.now) }
     ensures same_reference { tables.new.conn.ghost_name ≡ tables.old.conn.ghost_name }
     ensures carried { HasCleanDisk (state S.Store tables.new.conn.now)
         → OnOk result ((entries : EntryMap)
@@ -88,14 +77,8 @@ fn carry_first<S: Alter>(tables: &mut Transaction<'_, S>) -> Result<(), Error>
         → IsSecondStore (settled (state S.Store tables.new.conn.now)) entries) }
     ensures emptied { HasCleanDisk (state S.Store tables.new.conn.now)
         → OnOk result ((state S.Store tables.new.conn.now).now.trees (first_tree User) ≡ []) }
-    ensures open { HasCleanDisk (state S.Store tables.new.conn.now)
-        → OnOk result (IsTrue (state S.Store tables.new.conn.now).is_open) }
-    ensures inside { HasCleanDisk (state S.Store tables.new.conn.now)
-        → OnOk result (IsTrue (state S.Store tables.new.conn.now).in_transaction) }
-    ensures left { HasCleanDisk (state S.Store tables.new.conn.now)
-        → LeavesStore (state S.Store tables.old.conn.now) (state S.Store tables.new.conn.now) }
-    ensures quiet { Survives (state S.Store tables.old.conn.now) (state S.Store tables.new.conn.now)
-        (λ _. ⊥) }
+    ensures goes_on { GoesOn (state S.Store tables.old.conn.now) (state S.Store tables.new.conn.now)
+        result }
 {
     tables.execute(
         "CREATE TABLE user_entry_2 (name_key TEXT PRIMARY KEY NOT NULL, login TEXT NOT NULL, revision INTEGER NOT NULL, number TEXT NOT NULL, given TEXT NOT NULL, family TEXT NOT NULL, mail TEXT NOT NULL, department TEXT NOT NULL, active INTEGER NOT NULL, confirmed INTEGER NOT NULL, id TEXT)",
@@ -114,11 +97,9 @@ fn carry_first<S: Alter>(tables: &mut Transaction<'_, S>) -> Result<(), Error>
 
 /// Carries the tables of the second format over to the current one, as `carry_first` does.
 fn carry_second<S: Alter>(tables: &mut Transaction<'_, S>) -> Result<(), Error>
-    requires inside { HasCleanDisk (state S.Store tables.old.conn.now)
-        → IsTrue (state S.Store tables.old.conn.now).in_transaction }
-    requires second { HasCleanDisk (state S.Store tables.old.conn.now)
-        → IsTrue (state S.Store tables.old.conn.now).is_open → (entries : EntryMap)
-        × IsSecondStore (settled (state S.Store tables.old.conn.now)) entries }
+    requires inside { IsInside (state S.Store tables.old.conn.now) }
+    requires second { WhileOpen (λ s. (entries : EntryMap) × IsSecondStore (settled s) entries)
+        (state S.Store tables.old.conn.now) }
     ensures same_reference { tables.new.conn.ghost_name ≡ tables.old.conn.ghost_name }
     ensures carried { HasCleanDisk (state S.Store tables.new.conn.now)
         → OnOk result ((entries : EntryMap)
@@ -130,14 +111,8 @@ fn carry_second<S: Alter>(tables: &mut Transaction<'_, S>) -> Result<(), Error>
     ensures firsts { HasCleanDisk (state S.Store tables.new.conn.now)
         → OnOk result ((state S.Store tables.new.conn.now).now.trees (first_tree User)
         ≡ (state S.Store tables.old.conn.now).now.trees (first_tree User)) }
-    ensures open { HasCleanDisk (state S.Store tables.new.conn.now)
-        → OnOk result (IsTrue (state S.Store tables.new.conn.now).is_open) }
-    ensures inside { HasCleanDisk (state S.Store tables.new.conn.now)
-        → OnOk result (IsTrue (state S.Store tables.new.conn.now).in_transaction) }
-    ensures left { HasCleanDisk (state S.Store tables.new.conn.now)
-        → LeavesStore (state S.Store tables.old.conn.now) (state S.Store tables.new.conn.now) }
-    ensures quiet { Survives (state S.Store tables.old.conn.now) (state S.Store tables.new.conn.now)
-        (λ _. ⊥) }
+    ensures goes_on { GoesOn (state S.Store tables.old.conn.now) (state S.Store tables.new.conn.now)
+        result }
 {
     make_entries(tables)?;
     move_all(tables, Moved::SecondUsers)?;
@@ -156,11 +131,9 @@ fn carry_second<S: Alter>(tables: &mut Transaction<'_, S>) -> Result<(), Error>
 pub(crate) trait Older: Format {
     /// Carries the tables over, and leaves those of the format and of the second one empty.
     fn carry_over<S: Alter>(tables: &mut Transaction<'_, S>) -> Result<(), Error>
-        requires inside { HasCleanDisk (state S.Store tables.old.conn.now)
-            → IsTrue (state S.Store tables.old.conn.now).in_transaction }
-        requires older { HasCleanDisk (state S.Store tables.old.conn.now)
-            → IsTrue (state S.Store tables.old.conn.now).is_open → (entries : EntryMap)
-            × IsStoreBy Self.Format (settled (state S.Store tables.old.conn.now)) entries }
+        requires inside { IsInside (state S.Store tables.old.conn.now) }
+        requires older { WhileOpen (λ s. (entries : EntryMap)
+            × IsStoreBy Self.Format (settled s) entries) (state S.Store tables.old.conn.now) }
         ensures same_reference { tables.new.conn.ghost_name ≡ tables.old.conn.ghost_name }
         ensures carried { HasCleanDisk (state S.Store tables.new.conn.now)
             → OnOk result ((entries : EntryMap)
@@ -169,14 +142,8 @@ pub(crate) trait Older: Format {
         ensures emptied { HasCleanDisk (state S.Store tables.new.conn.now)
             → OnOk result
             (AreEmptied Self.Format (state S.Store tables.new.conn.now).now.trees) }
-        ensures open { HasCleanDisk (state S.Store tables.new.conn.now)
-            → OnOk result (IsTrue (state S.Store tables.new.conn.now).is_open) }
-        ensures inside { HasCleanDisk (state S.Store tables.new.conn.now)
-            → OnOk result (IsTrue (state S.Store tables.new.conn.now).in_transaction) }
-        ensures left { HasCleanDisk (state S.Store tables.new.conn.now)
-            → LeavesStore (state S.Store tables.old.conn.now) (state S.Store tables.new.conn.now) }
-        ensures quiet { Survives (state S.Store tables.old.conn.now)
-            (state S.Store tables.new.conn.now) (λ _. ⊥) };
+        ensures goes_on { GoesOn (state S.Store tables.old.conn.now)
+            (state S.Store tables.new.conn.now) result };
 }
 
 impl Older for Second {
@@ -197,8 +164,8 @@ impl Older for First {
 /// Carries a journal of an older format over by one transaction: all of it or none.
 pub(crate) fn carry<S: Alter, F: Older>(conn: &mut Connection<S>) -> Result<(), Error>
     requires outside { (state S.Store conn.old).in_transaction ≡ false }
-    requires older { HasCleanDisk (state S.Store conn.old) → IsTrue (state S.Store conn.old).is_open
-        → (entries : EntryMap) × IsStoreBy F.Format (state S.Store conn.old) entries }
+    requires older { WhileOpen (λ s. (entries : EntryMap) × IsStoreBy F.Format s entries)
+        (state S.Store conn.old) }
     ensures made { HasCleanDisk (state S.Store conn.new)
         → OnOk result (IsTrue (state S.Store conn.new).is_open
         × ((entries : EntryMap) → IsStoreBy F.Format (state S.Store conn.old) entries

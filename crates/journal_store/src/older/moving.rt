@@ -1,9 +1,8 @@
 //! Moves the rows of a table of an older format to the table of the next one.
 ghost use Rattle.std.specs.Prelude.{◌≡◌, [], IsTrue, OnOk};
-ghost use Rattle.std.specs.FinMap.{empty};
 ghost use Rattle.sqlite.specs.Held.{state};
 ghost use Rattle.sqlite.specs.State.{HasCleanDisk, Survives};
-ghost use Rattle.sql_tables.specs.Statements.{LeavesStore};
+ghost use Rattle.sql_tables.specs.Statements.{GoesOn, IsInside, LeavesStore, WhileOpen};
 ghost use Rattle.journal_store.specs.Older.Carrying.{CanMove, Moves, MovesAll};
 ghost use Rattle.journal_store.specs.Older.Format.{copy_part_text, copy_text, empty_part_text, empty_text};
 
@@ -87,23 +86,14 @@ fn move_part<S: Alter>(
     table: Moved,
     last: u32,
 ) -> Result<usize, Error>
-    requires inside { HasCleanDisk (state S.Store tables.old.conn.now)
-        → IsTrue (state S.Store tables.old.conn.now).in_transaction }
-    requires movable { HasCleanDisk (state S.Store tables.old.conn.now)
-        → IsTrue (state S.Store tables.old.conn.now).is_open
-        → CanMove table (state S.Store tables.old.conn.now) }
+    requires inside { IsInside (state S.Store tables.old.conn.now) }
+    requires movable { WhileOpen (CanMove table) (state S.Store tables.old.conn.now) }
     ensures same_reference { tables.new.conn.ghost_name ≡ tables.old.conn.ghost_name }
     ensures moved { HasCleanDisk (state S.Store tables.new.conn.now)
         → OnOk result
         (Moves table (state S.Store tables.old.conn.now) (state S.Store tables.new.conn.now)) }
-    ensures open { HasCleanDisk (state S.Store tables.new.conn.now)
-        → OnOk result (IsTrue (state S.Store tables.new.conn.now).is_open) }
-    ensures inside { HasCleanDisk (state S.Store tables.new.conn.now)
-        → OnOk result (IsTrue (state S.Store tables.new.conn.now).in_transaction) }
-    ensures left { HasCleanDisk (state S.Store tables.new.conn.now)
-        → LeavesStore (state S.Store tables.old.conn.now) (state S.Store tables.new.conn.now) }
-    ensures quiet { Survives (state S.Store tables.old.conn.now) (state S.Store tables.new.conn.now)
-        (λ _. ⊥) }
+    ensures goes_on { GoesOn (state S.Store tables.old.conn.now) (state S.Store tables.new.conn.now)
+        result }
 {
     let last = [ValueRef::Int(i64::from(last))];
     let count = tables.execute(copy_part_statement(table), &last)?;
@@ -114,11 +104,8 @@ fn move_part<S: Alter>(
 /// Moves the rows part by part, as long as a part has any. So it never holds more rows than a part has.
 /// Rows whose numbers lie further on may stay.
 fn move_parts<S: Alter>(tables: &mut Transaction<'_, S>, table: Moved) -> Result<(), Error>
-    requires inside { HasCleanDisk (state S.Store tables.old.conn.now)
-        → IsTrue (state S.Store tables.old.conn.now).in_transaction }
-    requires movable { HasCleanDisk (state S.Store tables.old.conn.now)
-        → IsTrue (state S.Store tables.old.conn.now).is_open
-        → CanMove table (state S.Store tables.old.conn.now) }
+    requires inside { IsInside (state S.Store tables.old.conn.now) }
+    requires movable { WhileOpen (CanMove table) (state S.Store tables.old.conn.now) }
     ensures same_reference { tables.new.conn.ghost_name ≡ tables.old.conn.ghost_name }
     ensures moved { HasCleanDisk (state S.Store tables.new.conn.now)
         → OnOk result (IsTrue (state S.Store tables.new.conn.now).is_open
@@ -141,23 +128,14 @@ fn move_parts<S: Alter>(tables: &mut Transaction<'_, S>, table: Moved) -> Result
 
 /// Moves the rows that are left.
 fn move_rest<S: Alter>(tables: &mut Transaction<'_, S>, table: Moved) -> Result<(), Error>
-    requires inside { HasCleanDisk (state S.Store tables.old.conn.now)
-        → IsTrue (state S.Store tables.old.conn.now).in_transaction }
-    requires movable { HasCleanDisk (state S.Store tables.old.conn.now)
-        → IsTrue (state S.Store tables.old.conn.now).is_open
-        → CanMove table (state S.Store tables.old.conn.now) }
+    requires inside { IsInside (state S.Store tables.old.conn.now) }
+    requires movable { WhileOpen (CanMove table) (state S.Store tables.old.conn.now) }
     ensures same_reference { tables.new.conn.ghost_name ≡ tables.old.conn.ghost_name }
     ensures moved { HasCleanDisk (state S.Store tables.new.conn.now)
         → OnOk result
         (MovesAll table (state S.Store tables.old.conn.now) (state S.Store tables.new.conn.now)) }
-    ensures open { HasCleanDisk (state S.Store tables.new.conn.now)
-        → OnOk result (IsTrue (state S.Store tables.new.conn.now).is_open) }
-    ensures inside { HasCleanDisk (state S.Store tables.new.conn.now)
-        → OnOk result (IsTrue (state S.Store tables.new.conn.now).in_transaction) }
-    ensures left { HasCleanDisk (state S.Store tables.new.conn.now)
-        → LeavesStore (state S.Store tables.old.conn.now) (state S.Store tables.new.conn.now) }
-    ensures quiet { Survives (state S.Store tables.old.conn.now) (state S.Store tables.new.conn.now)
-        (λ _. ⊥) }
+    ensures goes_on { GoesOn (state S.Store tables.old.conn.now) (state S.Store tables.new.conn.now)
+        result }
 {
     tables.execute(copy_statement(table), &[])?;
     tables.execute(empty_statement(table), &[])?;
@@ -166,23 +144,14 @@ fn move_rest<S: Alter>(tables: &mut Transaction<'_, S>, table: Moved) -> Result<
 
 /// Moves all rows.
 pub(crate) fn move_all<S: Alter>(tables: &mut Transaction<'_, S>, table: Moved) -> Result<(), Error>
-    requires inside { HasCleanDisk (state S.Store tables.old.conn.now)
-        → IsTrue (state S.Store tables.old.conn.now).in_transaction }
-    requires movable { HasCleanDisk (state S.Store tables.old.conn.now)
-        → IsTrue (state S.Store tables.old.conn.now).is_open
-        → CanMove table (state S.Store tables.old.conn.now) }
+    requires inside { IsInside (state S.Store tables.old.conn.now) }
+    requires movable { WhileOpen (CanMove table) (state S.Store tables.old.conn.now) }
     ensures same_reference { tables.new.conn.ghost_name ≡ tables.old.conn.ghost_name }
     ensures moved { HasCleanDisk (state S.Store tables.new.conn.now)
         → OnOk result
         (MovesAll table (state S.Store tables.old.conn.now) (state S.Store tables.new.conn.now)) }
-    ensures open { HasCleanDisk (state S.Store tables.new.conn.now)
-        → OnOk result (IsTrue (state S.Store tables.new.conn.now).is_open) }
-    ensures inside { HasCleanDisk (state S.Store tables.new.conn.now)
-        → OnOk result (IsTrue (state S.Store tables.new.conn.now).in_transaction) }
-    ensures left { HasCleanDisk (state S.Store tables.new.conn.now)
-        → LeavesStore (state S.Store tables.old.conn.now) (state S.Store tables.new.conn.now) }
-    ensures quiet { Survives (state S.Store tables.old.conn.now) (state S.Store tables.new.conn.now)
-        (λ _. ⊥) }
+    ensures goes_on { GoesOn (state S.Store tables.old.conn.now) (state S.Store tables.new.conn.now)
+        result }
 {
     move_parts(tables, table)?;
     move_rest(tables, table)

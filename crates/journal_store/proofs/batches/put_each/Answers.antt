@@ -14,6 +14,6 @@ pub loop-row-preserved : goal.loop-row-preserved
 loop-row-preserved g c =
     let put = c.in_ok-put_in.ensures in (
       put_next c.args.rows.now c.loop-row.row-index c.row-item.result (state g.S.Store c.args.tables.now.conn.now) (state g.S.Store c.loop-row.tables.conn.now) (state g.S.Store c.put_in.new.tables.conn.now)
-          c.loop-row-test.true c.row-item.is c.loop-row.invariant.0 put.under_way put.left put.quiet put.open put.put,
+          c.loop-row-test.true c.row-item.is c.loop-row.invariant.0 put.under_way put.goes_on.left put.goes_on.quiet put.goes_on.is_open put.put,
       put.same_reference ∙ c.loop-row.invariant.1,
     )

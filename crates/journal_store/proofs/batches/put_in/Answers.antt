@@ -22,7 +22,7 @@ returns-clause-put g c clean =
     let mid = state g.S.Store c.find_in.new.tables.conn.now in
     let new = state g.S.Store c.put_entry_in.new.tables.conn.now in
     let entry : Entry = record { row = c.args.row.now; confirmed = c.learnt_of-confirmed.result.0; id = c.learnt_of-confirmed.result.1 } in
-    let later : HasCleanDisk mid = omega (arith, clean, c.put_entry_in.ensures.quiet.clean) in
+    let later : HasCleanDisk mid = omega (arith, clean, c.put_entry_in.ensures.goes_on.quiet.clean) in
     on_ok c.put_entry_in.result
     (puts_row old mid c.args.row.now c.in_ok-name.name c.in_ok-held.held entry c.is_some-is_there.result c.in_ok-name.ensures (sym (c.learnt_of-confirmed.ensures c.args.row.now)) c.is_some-is_there.ensures
     (c.in_ok-held.ensures.found later) (c.in_ok-held.ensures.same later) new)

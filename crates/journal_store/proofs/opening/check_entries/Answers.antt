@@ -1,16 +1,15 @@
-use Rattle.std.proofs.Common.{IsTrue, List, arith, subst, sym}
+use Rattle.std.proofs.Common.{IsTrue, List, subst, sym}
 use Rattle.sqlite.specs.Effect.{Database}
 use Rattle.sqlite.specs.Held.{state}
-use Rattle.sqlite.specs.State.{HasCleanDisk}
 use Rattle.scim_key.specs.declared.records.Kind.TheVariants.{User, Group}
 use Rattle.journal_core.specs.declared.entries.Entry.{Entry}
 use Rattle.journal_store.specs.Connections.{ListsAllBy, ListsNoneBy, Shows}
-use Rattle.sql_tables.specs.Statements.{Looks}
 use Rattle.sql_tables.proofs.Results.{if_err, on_ok}
 use Rattle.sql_tables.specs.Faults.{HasFailed}
 use Rattle.journal_store.specs.Opening.{AreInOrder, AreLawful, HoldsEntriesBy, keys_of}
-use Rattle.journal_store.proofs.Checking.{damage_on, entries_both, failed_after, fails_of, lists_refused, mid_same, opens_by, told_of}
+use Rattle.journal_store.proofs.Checking.{damage_on, entries_both, fails_of, lists_refused, mid_same, opens_by, told_of}
 use Rattle.journal_store.proofs.Generic.{format_of}
+use Rattle.sql_tables.proofs.Checking.{checks_by, checks_err, checks_since}
 use Rattle.journal_store.proofs.opening.check_entries.Goals as goal
 
 pub returns-clause-holds : goal.returns-clause-holds
@@ -20,13 +19,13 @@ returns-clause-holds g c clean =
     let new = state g.S.Store c.list_entries-2.new.conn in
     let first = c.in_ok-users.ensures in
     let second = c.in_ok-groups.ensures in
-    let to_mid : Looks old mid = record { keeps = first.keeps; quiet = first.quiet } in
-    let to_new : Looks mid new = record { keeps = second.keeps; quiet = second.quiet } in
+    let to_mid = first.checks.looks in
+    let to_new = second.checks.looks in
     let users = c.in_ok-users.users.items in
     let groups = c.in_ok-groups.groups.items in
     let lawful = on_ok {Q = AreLawful users groups} c.check_lists.result
     (λ (it : AreLawful c.as_slice.result.now c.as_slice-2.result.now). subst (λ l. AreLawful l groups) c.as_slice.ensures.value (subst (AreLawful c.as_slice.result.now) c.as_slice-2.ensures.value it)) c.check_lists.ensures.lawful in
-    entries_both old mid new to_mid c.requires.laid to_new clean (format_of g.F.Layout g.F.Format) c.check_lists.result users groups first.all (second.all clean) (second.open clean) lawful
+    entries_both old mid new to_mid c.requires.laid to_new clean (format_of g.F.Layout g.F.Format) c.check_lists.result users groups first.all (second.all clean) (second.checks.is_open clean) lawful
 
 pub returns-in_err-users-clause-cause : goal.returns-in_err-users-clause-cause
 returns-in_err-users-clause-cause g c clean =
@@ -42,8 +41,8 @@ returns-in_err-groups-clause-cause g c clean =
     let new = state g.S.Store c.list_entries-2.new.conn in
     let first = c.in_ok-users.ensures in
     let second = c.in_err-groups.ensures in
-    let to_mid : Looks old mid = record { keeps = first.keeps; quiet = first.quiet } in
-    let to_new : Looks mid new = record { keeps = second.keeps; quiet = second.quiet } in
+    let to_mid = first.checks.looks in
+    let to_new = second.checks.looks in
     let same = mid_same old mid new to_mid c.requires.laid to_new clean in
     told_of ⊥ (IsTrue new.is_open × ListsNoneBy (Shows Group) (g.F.Format.columns Group) (mid.now.trees (g.F.Format.tree Group))) (IsTrue new.is_open × (HoldsEntriesBy (format_of g.F.Layout g.F.Format) old.now.trees → ⊥))
     (λ it. (it.0, λ holds. it.1 holds.groups (subst (λ (d : Database). ListsAllBy (Shows Group) (g.F.Format.columns Group) (d.trees (g.F.Format.tree Group)) holds.groups) (sym (same it.0)) holds.all_groups)))
@@ -56,11 +55,11 @@ returns-clause-cause g c clean =
     let new = state g.S.Store c.list_entries-2.new.conn in
     let first = c.in_ok-users.ensures in
     let second = c.in_ok-groups.ensures in
-    let to_mid : Looks old mid = record { keeps = first.keeps; quiet = first.quiet } in
-    let to_new : Looks mid new = record { keeps = second.keeps; quiet = second.quiet } in
+    let to_mid = first.checks.looks in
+    let to_new = second.checks.looks in
     let users = c.in_ok-users.users.items in
     let groups = c.in_ok-groups.groups.items in
-    let still = second.open clean in
+    let still = second.checks.is_open clean in
     damage_on ⊥ (AreInOrder (keys_of c.as_slice.result.now) → AreLawful c.as_slice.result.now c.as_slice-2.result.now → ⊥) (IsTrue new.is_open × (HoldsEntriesBy (format_of g.F.Layout g.F.Format) old.now.trees → ⊥))
     (λ unlawful. (
       still,
@@ -69,24 +68,19 @@ returns-clause-cause g c clean =
     ))
     c.check_lists.result c.check_lists.ensures.cause
 
-pub returns-in_err-users-clause-failed : goal.returns-in_err-users-clause-failed
-returns-in_err-users-clause-failed g c clean =
+pub returns-in_err-users-clause-checks : goal.returns-in_err-users-clause-checks
+returns-in_err-users-clause-checks g c =
     let failure = HasFailed (state g.S.Store c.args.conn.now) (state g.S.Store c.list_entries.new.conn) in
-    fails_of failure failure (λ it. it) c.from_residual.result c.in_err-users.field-0.0 c.from_residual.ensures.1 (c.in_err-users.ensures.failed clean)
+    checks_err _ _ _ c.in_err-users.field-0.0 c.from_residual.result c.from_residual.ensures.1 (fails_of failure failure (λ it. it) c.from_residual.result c.in_err-users.field-0.0 c.from_residual.ensures.1) c.in_err-users.ensures.checks
 
-pub returns-in_err-groups-clause-failed : goal.returns-in_err-groups-clause-failed
-returns-in_err-groups-clause-failed g c clean =
-    let old = state g.S.Store c.args.conn.now in
-    let mid = state g.S.Store c.list_entries.new.conn in
-    let new = state g.S.Store c.list_entries-2.new.conn in
-    let first = c.in_ok-users.ensures in
-    let second = c.in_err-groups.ensures in
-    let to_mid : Looks old mid = record { keeps = first.keeps; quiet = first.quiet } in
-    let mid_clean : HasCleanDisk mid = omega (arith, clean, second.quiet.clean) in
-    fails_of (HasFailed mid new) (HasFailed old new) (failed_after old mid new to_mid mid_clean second.quiet.counts)
-    c.from_residual-in_err-groups.result c.in_err-groups.field-0.0 c.from_residual-in_err-groups.ensures.1 (second.failed clean)
+pub returns-in_err-groups-clause-checks : goal.returns-in_err-groups-clause-checks
+returns-in_err-groups-clause-checks g c =
+    let failure = HasFailed (state g.S.Store c.list_entries.new.conn) (state g.S.Store c.list_entries-2.new.conn) in
+    checks_since _ _ _ c.from_residual-in_err-groups.result opens_by c.in_ok-users.ensures.checks.looks
+    (checks_err _ _ _ c.in_err-groups.field-0.0 c.from_residual-in_err-groups.result c.from_residual-in_err-groups.ensures.1 (fails_of failure failure (λ it. it) c.from_residual-in_err-groups.result c.in_err-groups.field-0.0 c.from_residual-in_err-groups.ensures.1) c.in_err-groups.ensures.checks)
 
-pub returns-clause-failed : goal.returns-clause-failed
-returns-clause-failed g c clean =
-    let failure = HasFailed (state g.S.Store c.args.conn.now) (state g.S.Store c.list_entries-2.new.conn) in
-    if_err c.check_lists.result (opens_by ⊥ failure (λ none. absurd none)) c.check_lists.ensures.failed
+pub returns-clause-checks : goal.returns-clause-checks
+returns-clause-checks g c =
+    let failure = HasFailed (state g.S.Store c.list_entries.new.conn) (state g.S.Store c.list_entries-2.new.conn) in
+    checks_since _ _ _ c.check_lists.result opens_by c.in_ok-users.ensures.checks.looks
+    (checks_by _ _ c.in_ok-groups.groups c.check_lists.result (if_err c.check_lists.result (opens_by ⊥ failure (λ none. absurd none)) c.check_lists.ensures.failed) c.in_ok-groups.ensures.checks)

@@ -12,7 +12,7 @@ pub number_fault-requires-clause-above : goal.number_fault-requires-clause-above
 number_fault-requires-clause-above g c clean still =
     let old = state g.S.Store c.args.conn.now in
     let above : IsMark (IsFormat old) c.number.result Newer = subst (IsMark (IsFormat old) c.number.result) c.in-Ok-Newer.field-0-is (c.in-Ok-Newer.ensures.mark clean) in
-    let same = same_now old (state g.S.Store c.mark_of.new.conn) c.mark_of.ensures.looks c.requires.laid clean still in (
+    let same = same_now old (state g.S.Store c.mark_of.new.conn) c.mark_of.ensures.checks.looks c.requires.laid clean still in (
       above.0,
       subst (λ own. own < above.0) c.number.ensures.number above.1,
       subst (λ (d : Database). map (λ (r : Row). column r 2) (d.trees format_tree) ≡ Int (pos above.0) ∷ []) (sym same) above.2,

@@ -11,6 +11,7 @@ use Rattle.journal_store.proofs.Checking.{damage_on, no_damage, numbers_found, r
 use Rattle.journal_store.proofs.Refusing.{unnumbered}
 use Rattle.journal_store.specs.Faults.{statement_fault}
 use Rattle.journal_store.specs.Opening.{OpenFailsFor}
+use Rattle.sql_tables.proofs.Checking.{checks_by, checks_fail}
 use Rattle.journal_store.proofs.opening.check_table.Goals as goal
 
 pub ask-requires-clause-query : goal.ask-requires-clause-query
@@ -18,16 +19,16 @@ ask-requires-clause-query g c = c.numbers_statement.ensures.query
 
 pub returns-in-Ok-clause-numbered : goal.returns-in-Ok-clause-numbered
 returns-in-Ok-clause-numbered g c clean =
-    let early : HasCleanDisk (state g.S.Store c.args.conn.now) = omega (arith, clean, c.in-Ok.ensures.quiet.clean) in
-    let laid = c.requires.laid early ((c.in-Ok.ensures.keeps clean).was_open (c.in-Ok.ensures.open clean)) in
+    let early : HasCleanDisk (state g.S.Store c.args.conn.now) = omega (arith, clean, c.in-Ok.ensures.checks.looks.quiet.clean) in
+    let laid = c.requires.laid early ((c.in-Ok.ensures.checks.looks.keeps clean).was_open (c.in-Ok.ensures.checks.is_open clean)) in
     on_ok c.check_rising.result (numbers_found (g.F.Format.tree c.args.kind) (state g.S.Store c.args.conn.now) c.numbers_statement.result.now c.in-Ok.rows.items c.as_slice.result.now c.numbers_statement.ensures.lists c.numbers_statement.ensures.given c.as_slice.ensures.value laid (c.in-Ok.ensures.rows clean)) c.check_rising.ensures.rising
 
 pub returns-in-Ok-clause-cause : goal.returns-in-Ok-clause-cause
 returns-in-Ok-clause-cause g c clean =
     let old = state g.S.Store c.args.conn.now in
-    let early : HasCleanDisk old = omega (arith, clean, c.in-Ok.ensures.quiet.clean) in
-    let still = c.in-Ok.ensures.open clean in
-    let laid = c.requires.laid early ((c.in-Ok.ensures.keeps clean).was_open still) in
+    let early : HasCleanDisk old = omega (arith, clean, c.in-Ok.ensures.checks.looks.quiet.clean) in
+    let still = c.in-Ok.ensures.checks.is_open clean in
+    let laid = c.requires.laid early ((c.in-Ok.ensures.checks.looks.keeps clean).was_open still) in
     damage_on ⊥ (IsUnnumbered c.as_slice.result.now) (IsTrue (state g.S.Store c.ask.new.conn).is_open × (AreNumbered (old.now.trees (g.F.Format.tree c.args.kind)) → ⊥))
     (λ fails. (still, unnumbered (g.F.Format.tree c.args.kind) old c.numbers_statement.result.now c.in-Ok.rows.items c.as_slice.result.now c.numbers_statement.ensures.lists c.numbers_statement.ensures.given c.as_slice.ensures.value laid (c.in-Ok.ensures.rows clean) fails))
     c.check_rising.result c.check_rising.ensures.cause
@@ -40,10 +41,12 @@ returns-in-Err-clause-cause g c clean =
 pub ask-requires-clause-given : goal.ask-requires-clause-given
 ask-requires-clause-given g c = c.numbers_statement.ensures.given
 
-pub returns-in-Ok-clause-failed : goal.returns-in-Ok-clause-failed
-returns-in-Ok-clause-failed g c clean = if_err c.check_rising.result (rows_fail (HasFailed (state g.S.Store c.args.conn.now) (state g.S.Store c.ask.new.conn))) c.check_rising.ensures.read
-
-pub returns-in-Err-clause-failed : goal.returns-in-Err-clause-failed
-returns-in-Err-clause-failed g c clean =
+pub returns-in-Ok-clause-checks : goal.returns-in-Ok-clause-checks
+returns-in-Ok-clause-checks g c =
     let failure = HasFailed (state g.S.Store c.args.conn.now) (state g.S.Store c.ask.new.conn) in
-    subst (OpenFailsFor failure) (sym c.from.ensures.0) (told_fails failure failure (λ it. it) (statement_fault c.in-Err.error) (fails_as _ (fault_of c.in-Err.error) (c.in-Err.ensures.failed clean)))
+    checks_by _ _ c.in-Ok.rows c.check_rising.result (if_err c.check_rising.result (rows_fail failure) c.check_rising.ensures.read) c.in-Ok.ensures.checks
+
+pub returns-in-Err-clause-checks : goal.returns-in-Err-clause-checks
+returns-in-Err-clause-checks g c =
+    let failure = HasFailed (state g.S.Store c.args.conn.now) (state g.S.Store c.ask.new.conn) in
+    checks_fail _ _ c.in-Err.error c.from.result (λ fails. subst (OpenFailsFor failure) (sym c.from.ensures.0) (told_fails failure failure (λ it. it) (statement_fault c.in-Err.error) (fails_as failure (fault_of c.in-Err.error) fails))) c.in-Err.ensures.checks

@@ -17,7 +17,7 @@ returns-in_err-check_tables-clause-cause g c clean =
 pub carry-requires-clause-older : goal.carry-requires-clause-older
 carry-requires-clause-older g c clean still =
     let was = c.in_ok-check_tables.ensures.store clean in
-    (was.0, store_on (state g.S.Store c.args.conn.now) (state g.S.Store c.check_tables.new.conn) was.0 c.in_ok-check_tables.ensures.looks was.1 clean still)
+    (was.0, store_on (state g.S.Store c.args.conn.now) (state g.S.Store c.check_tables.new.conn) was.0 c.in_ok-check_tables.ensures.checks.looks was.1 clean still)
 
 pub returns-in-Ok-clause-stands : goal.returns-in-Ok-clause-stands
 returns-in-Ok-clause-stands g c clean =
@@ -25,12 +25,12 @@ returns-in-Ok-clause-stands g c clean =
     let early : HasCleanDisk mid = omega (arith, clean, c.in-Ok.ensures.stop.clean) in
     let was = c.in_ok-check_tables.ensures.store early in
     let made = c.in-Ok.ensures.made clean in
-    (was.0, (was.1, made.2), made.1 was.0 (store_on (state g.S.Store c.args.conn.now) mid was.0 c.in_ok-check_tables.ensures.looks was.1 early (c.in_ok-check_tables.ensures.open early)))
+    (was.0, (was.1, made.2), made.1 was.0 (store_on (state g.S.Store c.args.conn.now) mid was.0 c.in_ok-check_tables.ensures.checks.looks was.1 early (c.in_ok-check_tables.ensures.checks.is_open early)))
 
 pub returns-in-Ok-clause-stop : goal.returns-in-Ok-clause-stop
 returns-in-Ok-clause-stop g c =
-    stop_carried (format_of g.F.Layout g.F.Format) (state g.S.Store c.args.conn.now) (state g.S.Store c.check_tables.new.conn) (state g.S.Store c.carry.new.conn) c.in_ok-check_tables.ensures.looks c.in_ok-check_tables.ensures.store c.in_ok-check_tables.ensures.open c.in-Ok.ensures.stop
+    stop_carried (format_of g.F.Layout g.F.Format) (state g.S.Store c.args.conn.now) (state g.S.Store c.check_tables.new.conn) (state g.S.Store c.carry.new.conn) c.in_ok-check_tables.ensures.checks.looks c.in_ok-check_tables.ensures.store c.in_ok-check_tables.ensures.checks.is_open c.in-Ok.ensures.stop
 
 pub returns-in-Err-clause-stop : goal.returns-in-Err-clause-stop
 returns-in-Err-clause-stop g c =
-    stop_carried (format_of g.F.Layout g.F.Format) (state g.S.Store c.args.conn.now) (state g.S.Store c.check_tables.new.conn) (state g.S.Store c.carry.new.conn) c.in_ok-check_tables.ensures.looks c.in_ok-check_tables.ensures.store c.in_ok-check_tables.ensures.open c.in-Err.ensures.stop
+    stop_carried (format_of g.F.Layout g.F.Format) (state g.S.Store c.args.conn.now) (state g.S.Store c.check_tables.new.conn) (state g.S.Store c.carry.new.conn) c.in_ok-check_tables.ensures.checks.looks c.in_ok-check_tables.ensures.store c.in_ok-check_tables.ensures.checks.is_open c.in-Err.ensures.stop

@@ -18,8 +18,8 @@ returns-then-is_journal-clause-stands g c clean =
     let old = state g.S.Store c.args.conn.now in
     let new = state g.S.Store c.check_tables.new.conn in
     on_both c.check_tables.result
-    (λ (found : (entries : EntryMap) × IsStore old entries) (still : IsTrue new.is_open). (found.0, record { stands = inl found.1; store = store_on old new found.0 c.check_tables.ensures.looks found.1 clean still }))
-    (c.check_tables.ensures.store clean) (c.check_tables.ensures.open clean)
+    (λ (found : (entries : EntryMap) × IsStore old entries) (still : IsTrue new.is_open). (found.0, record { stands = inl found.1; store = store_on old new found.0 c.check_tables.ensures.checks.looks found.1 clean still }))
+    (c.check_tables.ensures.store clean) (c.check_tables.ensures.checks.is_open clean)
 
 pub returns-in-Ok-clause-stands : goal.returns-in-Ok-clause-stands
 returns-in-Ok-clause-stands g c clean = let it = c.in-Ok.ensures.made clean in (empty, record { stands = inr (inr (it.1, refl)); store = it.2 })
@@ -32,9 +32,6 @@ returns-then-is_journal-clause-cause g c clean =
 
 pub returns-then-not-is_blank-clause-stands : goal.returns-then-not-is_blank-clause-stands
 returns-then-not-is_blank-clause-stands g c clean = on_ok c.refuse_foreign.result (λ none. absurd none) c.refuse_foreign.ensures.refused
-
-pub returns-then-not-is_blank-clause-open : goal.returns-then-not-is_blank-clause-open
-returns-then-not-is_blank-clause-open g c clean = on_ok c.refuse_foreign.result (λ none. absurd none) c.refuse_foreign.ensures.refused
 
 pub returns-then-not-is_blank-clause-cause : goal.returns-then-not-is_blank-clause-cause
 returns-then-not-is_blank-clause-cause g c clean =
@@ -51,7 +48,7 @@ pub returns-then-not-is_blank-clause-failed : goal.returns-then-not-is_blank-cla
 returns-then-not-is_blank-clause-failed g c clean =
     let old = state g.S.Store c.args.conn.now in
     let new = state g.S.Store c.refuse_foreign.new.conn in
-    if_err c.refuse_foreign.result (opens_by (HasFailed old new) (OpeningFails old new) (λ it. inr (inr (inr it)))) (c.refuse_foreign.ensures.failed clean)
+    if_err c.refuse_foreign.result (opens_by (HasFailed old new) (OpeningFails old new) (λ it. inr (inr (inr it)))) (c.refuse_foreign.ensures.checks.failed clean)
 
 pub returns-in-Err-clause-cause : goal.returns-in-Err-clause-cause
 returns-in-Err-clause-cause g c clean =
@@ -62,7 +59,7 @@ pub returns-then-is_journal-clause-failed : goal.returns-then-is_journal-clause-
 returns-then-is_journal-clause-failed g c clean =
     let old = state g.S.Store c.args.conn.now in
     let new = state g.S.Store c.check_tables.new.conn in
-    if_err c.check_tables.result (opens_by (HasFailed old new) (OpeningFails old new) (λ it. inr (inr (inr it)))) (c.check_tables.ensures.failed clean)
+    if_err c.check_tables.result (opens_by (HasFailed old new) (OpeningFails old new) (λ it. inr (inr (inr it)))) (c.check_tables.ensures.checks.failed clean)
 
 pub returns-in-Err-clause-failed : goal.returns-in-Err-clause-failed
 returns-in-Err-clause-failed g c clean =

@@ -18,10 +18,10 @@ pub loop-count-preserved : goal.loop-count-preserved
 loop-count-preserved g c =
     let so_far = c.loop-count.invariant in
     let step = c.in_ok-check_row.ensures in (
-      looks_then (state g.S.Store c.args.conn.now) (state g.S.Store c.loop-count.conn) (state g.S.Store c.check_row.new.conn) so_far.0 step.looks,
+      looks_then (state g.S.Store c.args.conn.now) (state g.S.Store c.loop-count.conn) (state g.S.Store c.check_row.new.conn) so_far.0 step.checks.looks,
       λ clean.
-          let mid_clean : HasCleanDisk (state g.S.Store c.loop-count.conn) = omega (arith, clean, step.looks.quiet.clean) in
-          let still = (step.looks.keeps clean).was_open (step.open clean) in
+          let mid_clean : HasCleanDisk (state g.S.Store c.loop-count.conn) = omega (arith, clean, step.checks.looks.quiet.clean) in
+          let still = (step.checks.looks.keeps clean).was_open (step.checks.is_open clean) in
           let table = same_rows (state g.S.Store c.args.conn.now) (state g.S.Store c.loop-count.conn) so_far.0 c.requires.laid mid_clean still in
           let is : IsTrue c.in_ok-check_row.field-0 = search (rules, tests) in
           next_lawful (resources (state g.S.Store c.args.conn.now)) c.loop-count.count (so_far.1 mid_clean) (subst (λ rows. IsLawfulAt rows (c.loop-count.count + 1)) table (step.lawful clean is)),
@@ -31,11 +31,11 @@ pub returns-in_err-check_row-clause-cause : goal.returns-in_err-check_row-clause
 returns-in_err-check_row-clause-cause g c clean =
     let so_far = c.loop-count.invariant in
     let err = c.in_err-check_row.ensures in
-    let mid_clean : HasCleanDisk (state g.S.Store c.loop-count.conn) = omega (arith, clean, err.looks.quiet.clean) in
+    let mid_clean : HasCleanDisk (state g.S.Store c.loop-count.conn) = omega (arith, clean, err.checks.looks.quiet.clean) in
     damage_of ⊥ (λ told. IsTrue (state g.S.Store c.check_row.new.conn).is_open × (told ≡ c.loop-count.count + 1) × IsWrong (resources (state g.S.Store c.loop-count.conn)) (c.loop-count.count + 1))
     (λ told. IsTrue (state g.S.Store c.check_row.new.conn).is_open × IsFirstWrong (resources (state g.S.Store c.args.conn.now)) told)
     (λ told it.
-    let still = (err.looks.keeps clean).was_open it.0 in
+    let still = (err.checks.looks.keeps clean).was_open it.0 in
     let table = same_rows (state g.S.Store c.args.conn.now) (state g.S.Store c.loop-count.conn) so_far.0 c.requires.laid mid_clean still in
     (it.0, first_wrong (resources (state g.S.Store c.args.conn.now)) c.loop-count.count told (so_far.1 mid_clean) it.1 (subst (λ rows. IsWrong rows (c.loop-count.count + 1)) table it.2)))
     c.from_residual.result c.in_err-check_row.field-0.0 c.from_residual.ensures.1 (err.cause clean)
@@ -47,5 +47,5 @@ returns-in_err-check_row-clause-failed g c clean =
     let new = state g.S.Store c.check_row.new.conn in
     let so_far = c.loop-count.invariant.0 in
     let err = c.in_err-check_row.ensures in
-    let mid_clean : HasCleanDisk mid = omega (arith, clean, err.looks.quiet.clean) in
-    opens_of (HasFailed mid new) (HasFailed old new) (failed_since old mid new so_far.quiet mid_clean err.looks.quiet.counts) c.from_residual.result c.in_err-check_row.field-0.0 c.from_residual.ensures.1 (err.failed clean)
+    let mid_clean : HasCleanDisk mid = omega (arith, clean, err.checks.looks.quiet.clean) in
+    opens_of (HasFailed mid new) (HasFailed old new) (failed_since old mid new so_far.quiet mid_clean err.checks.looks.quiet.counts) c.from_residual.result c.in_err-check_row.field-0.0 c.from_residual.ensures.1 (err.checks.failed clean)

@@ -1,4 +1,4 @@
-use Rattle.std.proofs.Common.{◌≡◌, List, [], ◌∷◌, IsTrue, filter, refl, ◌∙◌, arith, subst}
+use Rattle.std.proofs.Common.{Ok, true, ◌≡◌, List, [], ◌∷◌, IsTrue, filter, refl, ◌∙◌, arith, subst}
 use Rattle.sqlite_value.specs.Order.{Row}
 use Rattle.sqlite.specs.Held.{state}
 use Rattle.sqlite.specs.State.{HasCleanDisk}
@@ -7,20 +7,19 @@ use Rattle.provider_store.specs.Connections.{FindsNumber, resources}
 use Rattle.provider_store.specs.Lawful.{has_name, NoneNamed, IsWrong}
 use Rattle.provider_store.proofs.Finding.{has_named}
 use Rattle.provider_store.proofs.Refusing.{numbered_there, lawful_alone, told_number, wrong_shared, wrong_damaged}
-use Rattle.provider_store.proofs.Checking.{damage_of, same_rows}
+use Rattle.provider_store.proofs.Checking.{damage_of, opens_by, same_rows}
 use Rattle.provider_store.proofs.Checking.{fails_of, opens_of}
-use Rattle.sql_tables.specs.Statements.{Looks}
 use Rattle.sql_tables.specs.Faults.{HasFailed}
-use Rattle.sql_tables.proofs.Failing.{failed_since}
+use Rattle.sql_tables.proofs.Checking.{checks_err, checks_since}
 use Rattle.provider_store.proofs.opening.check_row.Goals as goal
 
 pub returns-in_ok-check_name-in-There-clause-lawful : goal.returns-in_ok-check_name-in-There-clause-lawful
 returns-in_ok-check_name-in-There-clause-lawful g c clean _ =
     let named = c.in_ok-check_name-in-There.ensures in
-    let mid_clean : HasCleanDisk (state g.S.Store c.find_numbered.new.conn) = omega (arith, clean, named.looks.quiet.clean) in
+    let mid_clean : HasCleanDisk (state g.S.Store c.find_numbered.new.conn) = omega (arith, clean, named.checks.looks.quiet.clean) in
     let found = subst (FindsNumber (resources (state g.S.Store c.args.conn.now)) c.args.number) c.in-There.is (c.in_ok-row.ensures.found mid_clean) in
-    let looks : Looks (state g.S.Store c.args.conn.now) (state g.S.Store c.find_numbered.new.conn) = record { keeps = c.in_ok-row.ensures.keeps; quiet = c.in_ok-row.ensures.quiet } in
-    let still = (named.looks.keeps clean).was_open (named.open clean) in
+    let looks = c.in_ok-row.ensures.checks.looks in
+    let still = (named.checks.looks.keeps clean).was_open (named.checks.is_open clean) in
     let rows = same_rows (state g.S.Store c.args.conn.now) (state g.S.Store c.find_numbered.new.conn) looks c.requires.laid mid_clean still in
     let alone = subst (λ (table : List Row). (r : Row) × (filter (has_name (content_name c.in-There.row.content)) table ≡ r ∷ [])) rows (named.named clean) in
     let table = resources (state g.S.Store c.args.conn.now) in
@@ -30,13 +29,13 @@ returns-in_ok-check_name-in-There-clause-lawful g c clean _ =
 pub returns-in_err-check_name-in-There-clause-cause : goal.returns-in_err-check_name-in-There-clause-cause
 returns-in_err-check_name-in-There-clause-cause g c clean =
     let err = c.in_err-check_name-in-There.ensures in
-    let mid_clean : HasCleanDisk (state g.S.Store c.find_numbered.new.conn) = omega (arith, clean, err.looks.quiet.clean) in
+    let mid_clean : HasCleanDisk (state g.S.Store c.find_numbered.new.conn) = omega (arith, clean, err.checks.looks.quiet.clean) in
     let found = subst (FindsNumber (resources (state g.S.Store c.args.conn.now)) c.args.number) c.in-There.is (c.in_ok-row.ensures.found mid_clean) in
-    let looks : Looks (state g.S.Store c.args.conn.now) (state g.S.Store c.find_numbered.new.conn) = record { keeps = c.in_ok-row.ensures.keeps; quiet = c.in_ok-row.ensures.quiet } in
+    let looks = c.in_ok-row.ensures.checks.looks in
     damage_of ⊥ (λ told. IsTrue (state g.S.Store c.check_name.new.conn).is_open × (told ≡ c.in-There.row.number) × NoneNamed (resources (state g.S.Store c.find_numbered.new.conn)) (content_name c.in-There.row.content))
     (λ told. IsTrue (state g.S.Store c.check_name.new.conn).is_open × (told ≡ c.args.number) × IsWrong (resources (state g.S.Store c.args.conn.now)) c.args.number)
     (λ told it.
-    let still = (err.looks.keeps clean).was_open it.0 in
+    let still = (err.checks.looks.keeps clean).was_open it.0 in
     let rows = same_rows (state g.S.Store c.args.conn.now) (state g.S.Store c.find_numbered.new.conn) looks c.requires.laid mid_clean still in
     let none = subst (λ (table : List Row). NoneNamed table (content_name c.in-There.row.content)) rows it.2 in
     let table = resources (state g.S.Store c.args.conn.now) in
@@ -49,18 +48,22 @@ returns-in-Nothing-clause-absent g c clean _ = subst (FindsNumber (resources (st
 pub returns-in-Damaged-clause-cause : goal.returns-in-Damaged-clause-cause
 returns-in-Damaged-clause-cause g c clean =
     let found = subst (FindsNumber (resources (state g.S.Store c.args.conn.now)) c.args.number) c.in-Damaged.is (c.in_ok-row.ensures.found clean) in
-    (c.in_ok-row.ensures.open clean, c.from.ensures, wrong_damaged (resources (state g.S.Store c.args.conn.now)) c.args.number found)
+    (c.in_ok-row.ensures.checks.is_open clean, c.from.ensures, wrong_damaged (resources (state g.S.Store c.args.conn.now)) c.args.number found)
 
-pub returns-in_err-row-clause-failed : goal.returns-in_err-row-clause-failed
-returns-in_err-row-clause-failed g c clean =
-    fails_of (HasFailed (state g.S.Store c.args.conn.now) (state g.S.Store c.find_numbered.new.conn)) c.from_residual.result c.in_err-row.field-0.0 c.from_residual.ensures.1 (c.in_err-row.ensures.failed clean)
+pub returns-in_err-row-clause-checks : goal.returns-in_err-row-clause-checks
+returns-in_err-row-clause-checks g c =
+    let failure = HasFailed (state g.S.Store c.args.conn.now) (state g.S.Store c.find_numbered.new.conn) in
+    checks_err _ _ _ c.in_err-row.field-0.0 c.from_residual.result c.from_residual.ensures.1 (fails_of failure c.from_residual.result c.in_err-row.field-0.0 c.from_residual.ensures.1) c.in_err-row.ensures.checks
 
-pub returns-in_err-check_name-in-There-clause-failed : goal.returns-in_err-check_name-in-There-clause-failed
-returns-in_err-check_name-in-There-clause-failed g c clean =
-    let old = state g.S.Store c.args.conn.now in
-    let mid = state g.S.Store c.find_numbered.new.conn in
-    let new = state g.S.Store c.check_name.new.conn in
-    let later = c.in_err-check_name-in-There.ensures in
-    let mid_clean : HasCleanDisk mid = omega (arith, clean, later.looks.quiet.clean) in
-    opens_of (HasFailed mid new) (HasFailed old new) (failed_since old mid new c.in_ok-row.ensures.quiet mid_clean later.looks.quiet.counts)
-    c.from_residual-in_err-check_name-in-There.result c.in_err-check_name-in-There.field-0.0 c.from_residual-in_err-check_name-in-There.ensures.1 (later.failed clean)
+pub returns-in_ok-check_name-in-There-clause-checks : goal.returns-in_ok-check_name-in-There-clause-checks
+returns-in_ok-check_name-in-There-clause-checks g c =
+    let named = c.in_ok-check_name-in-There.ensures.checks in
+    checks_since _ _ _ (Ok true) opens_by c.in_ok-row.ensures.checks.looks (record { failed = λ _. tt; is_open = named.is_open; looks = named.looks })
+
+pub returns-in_err-check_name-in-There-clause-checks : goal.returns-in_err-check_name-in-There-clause-checks
+returns-in_err-check_name-in-There-clause-checks g c =
+    let failure = HasFailed (state g.S.Store c.find_numbered.new.conn) (state g.S.Store c.check_name.new.conn) in
+    let fault = c.in_err-check_name-in-There.field-0.0 in
+    let result = c.from_residual-in_err-check_name-in-There.result in
+    let same = c.from_residual-in_err-check_name-in-There.ensures.1 in
+    checks_since _ _ _ result opens_by c.in_ok-row.ensures.checks.looks (checks_err _ _ _ fault result same (opens_of failure failure (λ it. it) result fault same) c.in_err-check_name-in-There.ensures.checks)

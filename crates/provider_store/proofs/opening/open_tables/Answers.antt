@@ -21,7 +21,7 @@ pub returns-then-not-is_blank-clause-failed : goal.returns-then-not-is_blank-cla
 returns-then-not-is_blank-clause-failed g c clean =
     let old = state g.S.Store c.args.conn.now in
     let new = state g.S.Store c.check_tables.new.conn in
-    if_err c.check_tables.result (opens_by (HasFailed old new) (OpeningFails old new) (λ it. inr (inr it))) (c.check_tables.ensures.failed clean)
+    if_err c.check_tables.result (opens_by (HasFailed old new) (OpeningFails old new) (λ it. inr (inr it))) (c.check_tables.ensures.checks.failed clean)
 
 pub returns-in-Err-clause-failed : goal.returns-in-Err-clause-failed
 returns-in-Err-clause-failed g c clean =

@@ -9,6 +9,7 @@ use Rattle.provider_store.proofs.Failing.{fails_as}
 use Rattle.provider_store.proofs.Giving.{numbered_given}
 use Rattle.sql_tables.proofs.Values.{bound_int}
 use Rattle.sql_tables.specs.Faults.{HasFailed}
+use Rattle.sql_tables.proofs.Checking.{checks_fail}
 use Rattle.provider_store.proofs.tables.find_numbered.Goals as goal
 
 pub ask-requires-clause-query : goal.ask-requires-clause-query
@@ -16,12 +17,14 @@ ask-requires-clause-query g c = numbered_is.reads
 
 pub returns-in_ok-only-in-Ok-clause-found : goal.returns-in_ok-only-in-Ok-clause-found
 returns-in_ok-only-in-Ok-clause-found g c clean =
-    let early : HasCleanDisk (state g.S.Store c.args.conn.now) = omega (arith, clean, c.in-Ok.ensures.quiet.clean) in
-    let laid = c.requires.laid early ((c.in-Ok.ensures.keeps clean).was_open (c.in-Ok.ensures.open clean)) in
+    let early : HasCleanDisk (state g.S.Store c.args.conn.now) = omega (arith, clean, c.in-Ok.ensures.checks.looks.quiet.clean) in
+    let laid = c.requires.laid early ((c.in-Ok.ensures.checks.looks.keeps clean).was_open (c.in-Ok.ensures.checks.is_open clean)) in
     number_found (state g.S.Store c.args.conn.now) c.args.number _ c.in-Ok.rows.items c.as_slice.result.now c.in_ok-only-in-Ok.field-0 (bound_int c.from.result c.args.number c.from.ensures (omega (arith, c.ranges.number.fits))) c.as_slice.ensures.value laid (c.in-Ok.ensures.rows clean) c.in_ok-only-in-Ok.ensures
 
 pub ask-requires-clause-given : goal.ask-requires-clause-given
 ask-requires-clause-given g c = numbered_given (to_z w64 (of_z w64 c.from.result))
 
-pub returns-in-Err-clause-failed : goal.returns-in-Err-clause-failed
-returns-in-Err-clause-failed g c clean = subst (FailsFor (HasFailed (state g.S.Store c.args.conn.now) (state g.S.Store c.ask.new.conn))) (sym c.fault_of.ensures) (fails_as _ (statement_fault c.in-Err.error) (c.in-Err.ensures.failed clean))
+pub returns-in-Err-clause-checks : goal.returns-in-Err-clause-checks
+returns-in-Err-clause-checks g c =
+    let failure = HasFailed (state g.S.Store c.args.conn.now) (state g.S.Store c.ask.new.conn) in
+    checks_fail _ _ c.in-Err.error c.fault_of.result (λ fails. subst (FailsFor failure) (sym c.fault_of.ensures) (fails_as failure (statement_fault c.in-Err.error) fails)) c.in-Err.ensures.checks

@@ -9,6 +9,7 @@ use Rattle.sql_tables.specs.Faults.{statement_fault}
 use Rattle.provider_store.proofs.Failing.{fails_as}
 use Rattle.provider_store.proofs.Giving.{page_given}
 use Rattle.sql_tables.specs.Faults.{HasFailed}
+use Rattle.sql_tables.proofs.Checking.{checks_fail}
 use Rattle.provider_store.proofs.tables.find_page.Goals as goal
 
 pub ask-requires-clause-query : goal.ask-requires-clause-query
@@ -19,19 +20,21 @@ ask-requires-clause-given g c = page_given _ _
 
 pub returns-in_ok-read_page-in-Ok-clause-found : goal.returns-in_ok-read_page-in-Ok-clause-found
 returns-in_ok-read_page-in-Ok-clause-found g c clean =
-    let early : HasCleanDisk (state g.S.Store c.args.conn.now) = omega (arith, clean, c.in-Ok.ensures.quiet.clean) in
-    let laid = c.requires.laid early ((c.in-Ok.ensures.keeps clean).was_open (c.in-Ok.ensures.open clean)) in
+    let early : HasCleanDisk (state g.S.Store c.args.conn.now) = omega (arith, clean, c.in-Ok.ensures.checks.looks.quiet.clean) in
+    let laid = c.requires.laid early ((c.in-Ok.ensures.checks.looks.keeps clean).was_open (c.in-Ok.ensures.checks.is_open clean)) in
     page_found (state g.S.Store c.args.conn.now) c.args.after c.args.last _ _ c.in-Ok.rows.items c.as_slice.result.now
     (bound_int (to_z w64 (of_z w64 c.from.result) +ℤ pos 1) (suc c.args.after) (ap (λ z. z +ℤ pos 1) (bound_int c.from.result c.args.after c.from.ensures (omega (arith, c.ranges.after.fits))) ∙ ap pos (omega arith)) (omega (arith, c.ranges.after.fits)))
     (bound_int c.from-2.result c.args.last c.from-2.ensures (omega (arith, c.ranges.last.fits))) c.as_slice.ensures.value laid (c.in-Ok.ensures.rows clean) (λ page. page.items) c.in_ok-read_page-in-Ok.field-0 c.in_ok-read_page-in-Ok.ensures.some
 
 pub returns-in_ok-read_page-in-Ok-clause-broken : goal.returns-in_ok-read_page-in-Ok-clause-broken
 returns-in_ok-read_page-in-Ok-clause-broken g c clean =
-    let early : HasCleanDisk (state g.S.Store c.args.conn.now) = omega (arith, clean, c.in-Ok.ensures.quiet.clean) in
-    let laid = c.requires.laid early ((c.in-Ok.ensures.keeps clean).was_open (c.in-Ok.ensures.open clean)) in
+    let early : HasCleanDisk (state g.S.Store c.args.conn.now) = omega (arith, clean, c.in-Ok.ensures.checks.looks.quiet.clean) in
+    let laid = c.requires.laid early ((c.in-Ok.ensures.checks.looks.keeps clean).was_open (c.in-Ok.ensures.checks.is_open clean)) in
     page_broken (state g.S.Store c.args.conn.now) c.args.after c.args.last _ _ c.in-Ok.rows.items c.as_slice.result.now
     (bound_int (to_z w64 (of_z w64 c.from.result) +ℤ pos 1) (suc c.args.after) (ap (λ z. z +ℤ pos 1) (bound_int c.from.result c.args.after c.from.ensures (omega (arith, c.ranges.after.fits))) ∙ ap pos (omega arith)) (omega (arith, c.ranges.after.fits)))
     (bound_int c.from-2.result c.args.last c.from-2.ensures (omega (arith, c.ranges.last.fits))) c.as_slice.ensures.value laid (c.in-Ok.ensures.rows clean) c.in_ok-read_page-in-Ok.field-0 c.in_ok-read_page-in-Ok.ensures.none
 
-pub returns-in-Err-clause-failed : goal.returns-in-Err-clause-failed
-returns-in-Err-clause-failed g c clean = subst (FailsFor (HasFailed (state g.S.Store c.args.conn.now) (state g.S.Store c.ask.new.conn))) (sym c.fault_of.ensures) (fails_as _ (statement_fault c.in-Err.error) (c.in-Err.ensures.failed clean))
+pub returns-in-Err-clause-checks : goal.returns-in-Err-clause-checks
+returns-in-Err-clause-checks g c =
+    let failure = HasFailed (state g.S.Store c.args.conn.now) (state g.S.Store c.ask.new.conn) in
+    checks_fail _ _ c.in-Err.error c.fault_of.result (λ fails. subst (FailsFor failure) (sym c.fault_of.ensures) (fails_as failure (statement_fault c.in-Err.error) fails)) c.in-Err.ensures.checks

@@ -21,11 +21,11 @@ returns-in-Err-clause-failed g c usable clean =
     let was_usable : IsTrue c.self.inside.is_usable = search (rules, tests) in
     let damage = IsFaithful g.S.Store new × ListsNone c.args.kind after.now.trees in
     let found : IsTrue after.is_open × ListsNone c.args.kind before.now.trees → damage = λ it.
-    let early : HasCleanDisk before = omega (arith, clean, err.quiet.clean) in
-    let laid = (c.self.invariant early ((err.keeps clean).was_open it.0) was_usable).laid in (
-      record { clean = clean; is_open = it.0; usable = was_usable; whole = sound_still g.S.Store old new refl err.quiet err.keeps c.self.invariant clean it.0 was_usable },
-      subst (λ (d : Database). ListsNone c.args.kind d.trees) (sym (kept_now before after (err.keeps clean) it.0 laid).0) it.1,
+    let early : HasCleanDisk before = omega (arith, clean, err.checks.looks.quiet.clean) in
+    let laid = (c.self.invariant early ((err.checks.looks.keeps clean).was_open it.0) was_usable).laid in (
+      record { clean = clean; is_open = it.0; usable = was_usable; whole = sound_still g.S.Store old new refl err.checks.looks.quiet err.checks.looks.keeps c.self.invariant clean it.0 was_usable },
+      subst (λ (d : Database). ListsNone c.args.kind d.trees) (sym (kept_now before after (err.checks.looks.keeps clean) it.0 laid).0) it.1,
     ) in
     subst (λ (k : Kept g.row.S.Denot). CallFailsFor (HasFailed (state g.S.Store k.conn) after ⊎ damage) c.counted.result) c.self.view_is
     (subst (CallFailsFor (HasFailed before after ⊎ damage)) (sym (c.counted.ensures.same ∙ c.fault_of.ensures))
-    (call_fails (HasFailed before after) damage c.in-Err.fault (err.failed clean) (cause_by (IsTrue after.is_open × ListsNone c.args.kind before.now.trees) damage found c.in-Err.fault (err.none clean))))
+    (call_fails (HasFailed before after) damage c.in-Err.fault (err.checks.failed clean) (cause_by (IsTrue after.is_open × ListsNone c.args.kind before.now.trees) damage found c.in-Err.fault (err.none clean))))

@@ -23,7 +23,7 @@ invariant_of-self-2 g c =
     let new : Kept g.row.S.Denot = record { conn = c.put_all-made.new.conn; is_usable = c.self.inside.is_usable; faults = c.concluded.new.faults; writes = c.concluded.new.writes } in
     let was_usable : IsTrue c.self.inside.is_usable = search (rules, tests) in
     let can = subst (λ (k : Kept g.row.S.Denot). IsFaithful g.S.Store k → CanPutRows (kept_entries g.S.Store k) c.args.rows.now) (sym c.self.view_is) c.requires.lawful in
-    writes_sound g.S.Store old new (with_rows (kept_entries g.S.Store old) c.args.rows.now) (PutsRows c.args.rows.now) c.self.invariant was_usable refl (rows_mean g.S.Store old c.args.rows.now can) c.put_all-made.ensures.stop c.put_all-made.result c.put_all-made.ensures.made c.put_all-made.ensures.keeps
+    writes_sound g.S.Store old new (with_rows (kept_entries g.S.Store old) c.args.rows.now) (PutsRows c.args.rows.now) c.self.invariant was_usable refl (rows_mean g.S.Store old c.args.rows.now can) c.put_all-made.ensures.changes.stop c.put_all-made.result c.put_all-made.ensures.changes.made c.put_all-made.ensures.changes.keeps
 
 pub returns-clause-puts : goal.returns-clause-puts
 returns-clause-puts g c =
@@ -32,7 +32,7 @@ returns-clause-puts g c =
     let was_usable : IsTrue c.self.inside.is_usable = search (rules, tests) in
     let can = subst (λ (k : Kept g.row.S.Denot). IsFaithful g.S.Store k → CanPutRows (kept_entries g.S.Store k) c.args.rows.now) (sym c.self.view_is) c.requires.lawful in
     subst (λ (k : Kept g.row.S.Denot). Writes g.S.Store k new (with_rows (kept_entries g.S.Store k) c.args.rows.now) c.concluded.result) c.self.view_is
-    (writes g.S.Store old new (with_rows (kept_entries g.S.Store old) c.args.rows.now) (PutsRows c.args.rows.now) c.self.invariant was_usable refl (rows_mean g.S.Store old c.args.rows.now can) c.put_all-made.ensures.stop c.concluded.result c.concluded.ensures.faults c.concluded.ensures.written c.concluded.ensures.unwritten c.put_all-made.result c.put_all-made.ensures.made c.put_all-made.ensures.keeps c.concluded.ensures.is)
+    (writes g.S.Store old new (with_rows (kept_entries g.S.Store old) c.args.rows.now) (PutsRows c.args.rows.now) c.self.invariant was_usable refl (rows_mean g.S.Store old c.args.rows.now can) c.put_all-made.ensures.changes.stop c.concluded.result c.concluded.ensures.faults c.concluded.ensures.written c.concluded.ensures.unwritten c.put_all-made.result c.put_all-made.ensures.changes.made c.put_all-made.ensures.changes.keeps c.concluded.ensures.is)
 
 pub returns-clause-open : goal.returns-clause-open
 returns-clause-open g c =
@@ -40,4 +40,4 @@ returns-clause-open g c =
     let new : Kept g.row.S.Denot = record { conn = c.put_all-made.new.conn; is_usable = c.self.inside.is_usable; faults = c.concluded.new.faults; writes = c.concluded.new.writes } in
     let was_usable : IsTrue c.self.inside.is_usable = search (rules, tests) in
     let can = subst (λ (k : Kept g.row.S.Denot). IsFaithful g.S.Store k → CanPutRows (kept_entries g.S.Store k) c.args.rows.now) (sym c.self.view_is) c.requires.lawful in
-    writes_open g.S.Store old new (with_rows (kept_entries g.S.Store old) c.args.rows.now) (PutsRows c.args.rows.now) c.self.invariant was_usable refl (rows_mean g.S.Store old c.args.rows.now can) c.put_all-made.ensures.stop c.put_all-made.result c.put_all-made.ensures.made c.concluded.result c.concluded.ensures.is
+    writes_open g.S.Store old new (with_rows (kept_entries g.S.Store old) c.args.rows.now) (PutsRows c.args.rows.now) c.self.invariant was_usable refl (rows_mean g.S.Store old c.args.rows.now can) c.put_all-made.ensures.changes.stop c.put_all-made.result c.put_all-made.ensures.changes.made c.concluded.result c.concluded.ensures.is

@@ -47,16 +47,16 @@ returns-clause-stop g c =
     let end = c.commit.new.self.0 in
     let same : end ≡ c.conn-2-1.given.0 = search rules in
     let begun = c.transaction-journal.ensures.begun in
-    let inside = c.in_ok-carry_over.ensures.quiet in
+    let inside = c.in_ok-carry_over.ensures.goes_on.quiet in
     let before : (held : EntryMap) → Before (state g.S.Store old) held → Before (settled (state g.S.Store c.transaction-journal.result.conn.now)) held =
     rw begun (λ held it. begun_store (state g.S.Store old) held it) in
     let leaves = LeavesCarriedBy (format_of g.F.Layout g.F.Format) (state g.S.Store old) in
     let whole = survives_then (state g.S.Store old) (state g.S.Store last) (state g.S.Store end) _ _ leaves (λ _ db it. absurd it)
     (λ late db is.
     let at_last : HasCleanDisk (state g.S.Store last) = omega (arith, late, c.commit.ensures.survives.clean) in
-    let at_begun : HasCleanDisk (state g.S.Store c.transaction-journal.result.conn.now) = omega (arith, at_last, c.carry_over.ensures.quiet.clean) in
+    let at_begun : HasCleanDisk (state g.S.Store c.transaction-journal.result.conn.now) = omega (arith, at_last, c.carry_over.ensures.goes_on.quiet.clean) in
     let first : HasCleanDisk (state g.S.Store old) = rw begun at at_begun in
-    let was_open : IsTrue (state g.S.Store old).is_open = rw begun at ((c.in_ok-carry_over.ensures.left at_last).was_open (c.in_ok-carry_over.ensures.open at_last)) in
+    let was_open : IsTrue (state g.S.Store old).is_open = rw begun at ((c.in_ok-carry_over.ensures.goes_on.left at_last).was_open (c.in_ok-carry_over.ensures.goes_on.is_open at_last)) in
     let held = c.requires.older first was_open in
     let kept = c.in_ok-carry_over.ensures.carried at_last held.0 (before held.0 held.1) in
     stop_leaves (format_of g.F.Layout g.F.Format) (state g.S.Store old) (state g.S.Store last) held.0 db held.1 kept (c.in_ok-carry_over.ensures.emptied at_last) is)

@@ -15,7 +15,7 @@ pub returns-clause-moved : goal.returns-clause-moved
 returns-clause-moved g c clean =
     let mid = state g.S.Store c.move_parts.new.tables.conn.now in
     let last = state g.S.Store c.move_rest.new.tables.conn.now in
-    let at_mid : HasCleanDisk mid = omega (arith, clean, c.move_rest.ensures.quiet.clean) in
+    let at_mid : HasCleanDisk mid = omega (arith, clean, c.move_rest.ensures.goes_on.quiet.clean) in
     on_both c.move_rest.result
-    (λ all opened. record { moves = moves_then c.args.table (state g.S.Store c.args.tables.now.conn.now) mid last (c.in_ok-move_parts.ensures.moved at_mid ((c.move_rest.ensures.left clean).was_open opened)) all.moves; none = all.none })
-    (c.move_rest.ensures.moved clean) (c.move_rest.ensures.open clean)
+    (λ all opened. record { moves = moves_then c.args.table (state g.S.Store c.args.tables.now.conn.now) mid last (c.in_ok-move_parts.ensures.moved at_mid ((c.move_rest.ensures.goes_on.left clean).was_open opened)) all.moves; none = all.none })
+    (c.move_rest.ensures.moved clean) (c.move_rest.ensures.goes_on.is_open clean)

@@ -12,11 +12,11 @@ move_part-requires-clause-movable g c = movable_still c.args.table (state g.S.St
 pub loop-part-preserved : goal.loop-part-preserved
 loop-part-preserved g c =
     let it = c.in_ok-count.ensures in (
-      moved_next c.args.table (state g.S.Store c.args.tables.now.conn.now) (state g.S.Store c.loop-part.tables.conn.now) (state g.S.Store c.move_part.new.tables.conn.now) c.loop-part.invariant.0 it.inside it.left it.quiet it.moved,
+      moved_next c.args.table (state g.S.Store c.args.tables.now.conn.now) (state g.S.Store c.loop-part.tables.conn.now) (state g.S.Store c.move_part.new.tables.conn.now) c.loop-part.invariant.0 it.goes_on.inside it.goes_on.left it.goes_on.quiet it.moved,
       it.same_reference ∙ c.loop-part.invariant.1,
     )
 
 pub returns-then-count-eq0-clause-moved : goal.returns-then-count-eq0-clause-moved
 returns-then-count-eq0-clause-moved g c clean opened =
     let it = c.in_ok-count.ensures in
-    (moved_next c.args.table (state g.S.Store c.args.tables.now.conn.now) (state g.S.Store c.loop-part.tables.conn.now) (state g.S.Store c.move_part.new.tables.conn.now) c.loop-part.invariant.0 it.inside it.left it.quiet it.moved).moves clean opened
+    (moved_next c.args.table (state g.S.Store c.args.tables.now.conn.now) (state g.S.Store c.loop-part.tables.conn.now) (state g.S.Store c.move_part.new.tables.conn.now) c.loop-part.invariant.0 it.goes_on.inside it.goes_on.left it.goes_on.quiet it.moved).moves clean opened

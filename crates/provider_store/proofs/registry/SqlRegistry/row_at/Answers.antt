@@ -15,4 +15,4 @@ returns-clause-failed g c usable clean =
     let old = state g.S.Store c.self.inside.conn in
     let new = state g.S.Store c.find_numbered-found.new.conn in
     subst (λ (k : Kept g.row.S.Denot). IfErr c.one_of.result (FailsFor (HasFailed (state g.S.Store k.conn) new ⊎ FindsNumber (resources (state g.S.Store k.conn)) c.args.number Damaged))) c.self.view_is
-    (if_err c.one_of.result (λ fault is. look_up_failed (HasFailed old new) (FindsNumber (resources old) c.args.number) c.find_numbered-found.result fault is (call.found clean) (call.failed clean)) c.one_of.ensures.fault)
+    (if_err c.one_of.result (λ fault is. look_up_failed (HasFailed old new) (FindsNumber (resources old) c.args.number) c.find_numbered-found.result fault is (call.found clean) (call.checks.failed clean)) c.one_of.ensures.fault)
