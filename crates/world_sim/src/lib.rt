@@ -34,6 +34,6 @@ pub use reports::{Report, WorldFault};
 pub use runs::run;
 pub use schedules::{NUMBER_DIGITS, ScheduleFault, read_acts, read_schedule, said_lines};
 pub use settling::{Count, MOST_EXCHANGES, settle};
-pub use strangers::contested;
+pub use strangers::{contested, offered};
 pub use views::View;
 pub use worlds::World;
