@@ -1,3 +1,4 @@
 pub mod ImageLemmas
 pub mod RunLemmas
 mod LimitLemmas
+pub mod AmongLemmas

@@ -2,7 +2,6 @@
 use Rattle.std.specs.Prelude.{◌≡◌, ℕ, Bool, true, if◌then◌else◌, ◌&&◌, List, Option, Result, Ok, Err}
 use Rattle.std.specs.List.{list_all}
 use Rattle.std.specs.declared.io.Error.{Error}
-use Rattle.scim_key.specs.Outcome.{◌>>=◌}
 use Rattle.source_csv.specs.Fields.{Record}
 use Rattle.provider_core.specs.declared.registry.Registry.{Ghosts as Registries}
 use Rattle.journal_core.specs.declared.journals.Journal.{Ghosts as Journals}
@@ -16,7 +15,6 @@ use Rattle.world_sim.specs.declared.following.TellingFault.{TellingFault}
 use Rattle.world_sim.specs.declared.printing_among.ActLines.{ActLines}
 use Rattle.world_sim.specs.declared.printing_among.PrintedAmong.{PrintedAmong}
 use Rattle.world_sim.specs.declared.schedules.ScheduleFault.{ScheduleFault}
-use Rattle.world_sim.specs.declared.schedules.ScheduleFault.TheVariants.{Line, Memory}
 use Rattle.world_sim.specs.declared.views.View.{View}
 use Rattle.commands.specs.Statuses.{is_confirmed, is_taken, telling_fault}
 use Rattle.commands.specs.declared.simulating_among.Schedule.{Schedule}
@@ -27,20 +25,28 @@ use Rattle.commands.specs.declared.status.Status.TheVariants.{Done, Refused}
 
 -- ---- schedules
 
+-- events of ours alone, or acts
+pub data Said : Type 0 where
+  Alone : (events : List Event) → Said
+  Among : (acts : List Act) → Said
+
+abbrev pub said_by : Schedule → Said
+said_by (schedules.Alone events) = Alone events.items
+said_by (schedules.Among acts) = Among acts.items
+
 -- what a schedule says, by its acts
-abbrev pub among_in : Result (List Act) ScheduleFault → Result Schedule ScheduleFault
-among_in (Ok acts) = Ok (schedules.Among acts)
+abbrev pub among_in : Result (List Act) ScheduleFault → Result Said ScheduleFault
+among_in (Ok acts) = Ok (Among acts)
 among_in (Err fault) = Err fault
 
 -- the same by its events, if each line is one
-abbrev pub alone_or : Result (List Event) ScheduleFault → Result (List Act) ScheduleFault
-    → Result Schedule ScheduleFault
-alone_or (Ok events) acts = Ok (schedules.Alone events)
+abbrev pub alone_or : Result (List Event) ScheduleFault → Result (List Act) ScheduleFault → Result Said ScheduleFault
+alone_or (Ok events) acts = Ok (Alone events)
 alone_or (Err fault) acts = among_in acts
 
 -- What a schedule says: its events, if each line is one, and otherwise its acts, or the first line that is neither an
 -- event nor what others write
-abbrev pub schedule_of : (List ℕ → List Record) → List ℕ → Result Schedule ScheduleFault
+abbrev pub schedule_of : (List ℕ → List Record) → List ℕ → Result Said ScheduleFault
 schedule_of records_in text = alone_or (events_in records_in text) (acts_in records_in text)
 
 -- ---- runs

@@ -1,10 +1,10 @@
 //! Runs the acts of `simulate`: our events, and what others write at the same provider.
 ghost use Rattle.std.specs.Prelude.{◌≡◌, IfErr, IfOk, List, ℕ};
 ghost use Rattle.std.specs.List.{list_all};
-ghost use Rattle.scim_key.specs.Outcome.{Gives};
+ghost use Rattle.scim_key.specs.Outcome.{GivesBy};
 ghost use Rattle.source_csv.specs.Fields.{Record};
-ghost use Rattle.commands.specs.SimulationsAmong.{EndsAmongOthers, SimulatesAmong, acted_status, is_taken_act, schedule_of};
-ghost use Rattle.world_sim.specs.Schedules.{ReadsFiles};
+ghost use Rattle.commands.specs.SimulationsAmong.{EndsAmongOthers, SimulatesAmong, acted_status, among_in, is_taken_act, said_by, schedule_of};
+ghost use Rattle.world_sim.specs.Schedules.{ReadsFiles, acts_in};
 
 use crate::endings::{are_confirmed, is_taken};
 use crate::status::{CommandFault, Status};
@@ -14,8 +14,8 @@ use scim_key::Base;
 use std::alloc::{AllocError, Global};
 use std::io::{Eprint, Write};
 use world_sim::{
-    Act, ActLines, ActReport, Event, ScheduleFault, View, contested, print_run_among, read_acts,
-    read_schedule, said_lines,
+    Act, ActLines, ActReport, Event, ScheduleFault, View, contested, offered, print_run_among,
+    read_acts, read_schedule, said_lines,
 };
 
 /// What a schedule says.
@@ -30,12 +30,23 @@ pub enum Schedule {
 /// Reads a schedule. If each line is an event, others don't write.
 pub fn schedule_of(alloc: Global, text: &str) -> Result<Schedule, ScheduleFault>
     ensures { (records_in : List ℕ → List Record) → ReadsFiles records_in
-        → Gives ScheduleFault.Memory result (schedule_of records_in text.now) }
+        → GivesBy said_by ScheduleFault.Memory result (schedule_of records_in text.now) }
 {
     match read_schedule(alloc, text) {
         Ok(events) => Ok(Schedule::Alone(events)),
-        Err(ScheduleFault::Line(_)) => Ok(Schedule::Among(read_acts(alloc, text)?)),
+        Err(ScheduleFault::Line(_)) => among_of(alloc, text),
         Err(ScheduleFault::Memory) => Err(ScheduleFault::Memory),
+    }
+}
+
+/// Reads a schedule in which others write.
+fn among_of(alloc: Global, text: &str) -> Result<Schedule, ScheduleFault>
+    ensures { (records_in : List ℕ → List Record) → ReadsFiles records_in
+        → GivesBy said_by ScheduleFault.Memory result (among_in (acts_in records_in text.now)) }
+{
+    match read_acts(alloc, text) {
+        Ok(acts) => Ok(Schedule::Among(acts)),
+        Err(fault) => Err(fault),
     }
 }
 
@@ -47,10 +58,13 @@ pub fn tell_contested(
     acts: &[Act],
 ) -> Result<(), AllocError> {
     let numbers = said_lines(alloc, text)?;
+    let ours = offered(alloc, acts)?;
     for (number, act) in numbers.iter().zip(acts) {
-        if let Some(name) = contested(alloc, acts, act)? {
+        if let Some(name) = contested(alloc, ours.as_slice(), act)? {
             let (kind, key) = (kind_word(name.kind), name.key.as_str());
-            let _ = eprintln!(stderr; "schedule line {number}: others write {kind} {key}, a record of the source");
+            let _ = eprintln!(stderr;
+                "schedule line {number}: others write {kind} {key}, a record of the source"
+            );
         }
     }
     Ok(())

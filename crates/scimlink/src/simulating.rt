@@ -67,7 +67,15 @@ fn run<R: Runtime + AllocGlobal>(
     let registry = MemoryRegistry::new(rt.alloc());
     let journal = MemoryJournal::new(rt.alloc());
     let mut lines = ReportLines::new(rt.alloc(), out);
-    run_events(rt.alloc(), registry, journal, base, events, settles, &mut lines)
+    run_events(
+        rt.alloc(),
+        registry,
+        journal,
+        base,
+        events,
+        settles,
+        &mut lines,
+    )
 }
 
 /// Runs these acts over stores in memory.
@@ -81,7 +89,15 @@ fn run_among<R: Runtime + AllocGlobal>(
     let registry = MemoryRegistry::new(rt.alloc());
     let journal = MemoryJournal::new(rt.alloc());
     let mut lines = ActLines::new(rt.alloc(), out);
-    simulate_among(rt.alloc(), registry, journal, base, acts, settles, &mut lines)
+    simulate_among(
+        rt.alloc(),
+        registry,
+        journal,
+        base,
+        acts,
+        settles,
+        &mut lines,
+    )
 }
 
 /// The journals of the connectors behind the first one.

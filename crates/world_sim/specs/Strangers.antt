@@ -1,5 +1,5 @@
 -- Records that others write by rows.
-use Rattle.std.specs.Prelude.{Bool, false, if◌then◌else◌, List, [], ◌∷◌, ◌++◌, Option, Some, None, option_to_list}
+use Rattle.std.specs.Prelude.{Bool, if◌then◌else◌, List, [], ◌∷◌, ◌++◌, Option, Some, None, option_to_list}
 use Rattle.std.specs.List.{list_any}
 use Rattle.scim_key.specs.Records.{same_name}
 use Rattle.scim_key.specs.declared.records.RecordName.{RecordName}
@@ -25,25 +25,30 @@ strangers known [] = []
 strangers known (act ∷ acts) =
     option_to_list (met known act) ++ strangers (known ++ option_to_list (met known act)) acts
 
--- whether our source offers a row of this record by this event
-abbrev pub offers : RecordName → Event → Bool
-offers name (events.Change row) = same_name (row_name row) name
-offers name (events.Send other) = false
-offers name (events.Deliver number) = false
-offers name (events.Cut number length) = false
-offers name events.RestartProvider = false
-offers name events.RestartConnector = false
+-- the record of which our source offers a row by an event, if it offers one
+abbrev pub offered_by : Event → Option RecordName
+offered_by (events.Change row) = Some (row_name row)
+offered_by (events.Send name) = None
+offered_by (events.Deliver number) = None
+offered_by (events.Cut number length) = None
+offered_by events.RestartProvider = None
+offered_by events.RestartConnector = None
 
--- the same of an act
-abbrev pub is_offer : RecordName → Act → Bool
-is_offer name (deeds.Ours event) = offers name event
-is_offer name (deeds.Asks request) = false
-is_offer name (deeds.Writes content) = false
-is_offer name (deeds.WritesRow row) = false
+-- the same by an act
+abbrev pub offer : Act → Option RecordName
+offer (deeds.Ours event) = offered_by event
+offer (deeds.Asks request) = None
+offer (deeds.Writes content) = None
+offer (deeds.WritesRow row) = None
 
--- The record that others write by the row of this act, if our source offers a row of it by one of these acts
-abbrev pub contested : List Act → Act → Option RecordName
-contested acts (deeds.Ours event) = None
-contested acts (deeds.Asks request) = None
-contested acts (deeds.Writes content) = None
-contested acts (deeds.WritesRow row) = if list_any (is_offer (row_name row)) acts then Some (row_name row) else None
+-- The records of which our source offers rows by these acts, in their order
+abbrev pub offered : List Act → List RecordName
+offered [] = []
+offered (act ∷ acts) = option_to_list (offer act) ++ offered acts
+
+-- The record that others write by the row of an act, if it is one of these
+abbrev pub contested : (ours : List RecordName) → Act → Option RecordName
+contested ours (deeds.Ours event) = None
+contested ours (deeds.Asks request) = None
+contested ours (deeds.Writes content) = None
+contested ours (deeds.WritesRow row) = if is_one_of ours (row_name row) then Some (row_name row) else None

@@ -39,7 +39,7 @@ pub use schedules::{NUMBER_DIGITS, ScheduleFault, read_acts, read_schedule, said
 pub use settling::{Count, MOST_EXCHANGES, settle};
 pub use several::{SharedWorld, Turn, TurnReport};
 pub use several_printing::{PrintedSeveral, print_several};
-pub use strangers::contested;
+pub use strangers::{contested, offered};
 pub use turns::random_turns;
 pub use views::View;
 pub use worlds::World;

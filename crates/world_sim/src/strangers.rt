@@ -1,6 +1,5 @@
 //! Records that others write and that aren't ours.
 ghost use Rattle.std.specs.Prelude.{◌≡◌, ◌++◌, IfOk};
-ghost use Rattle.std.specs.List.{list_any};
 ghost use Rattle.mapping.specs.Settling.{IsSettleOrder};
 ghost use Rattle.world_sim.specs.Strangers as spec;
 
@@ -63,42 +62,46 @@ pub(crate) fn strangers(
     Ok(names)
 }
 
-/// Whether our source offers a row of this record by this act.
-fn is_offer(alloc: Global, act: &Act, name: &RecordName) -> Result<bool, AllocError>
-    ensures { IfOk result (λ found. found ≡ spec.is_offer name.now act.now) }
+/// The record of which our source offers a row by this act, if it offers one.
+fn offer(alloc: Global, act: &Act) -> Result<Option<RecordName>, AllocError>
+    ensures { IfOk result (λ name. name ≡ spec.offer act.now) }
 {
     match act {
         Act::Ours(Event::Change(row)) => {
-            let offered = row.record_name(alloc)?;
-            Ok(offered == *name)
+            let name = row.record_name(alloc)?;
+            Ok(Some(name))
         }
-        _ => Ok(false),
+        _ => Ok(None),
     }
 }
 
-/// Whether our source offers a row of this record by one of these acts.
-fn is_offered(alloc: Global, acts: &[Act], name: &RecordName) -> Result<bool, AllocError>
-    ensures { IfOk result (λ found. found ≡ list_any (spec.is_offer name.now) acts.now) }
+/// The records of which our source offers rows by these acts, in their order.
+pub fn offered(alloc: Global, acts: &[Act]) -> Result<Vec<RecordName>, AllocError>
+    ensures { IfOk result (λ names. names.items ≡ spec.offered acts.now) }
 {
+    let mut names = Vec::new(alloc);
     for act in acts {
-        if is_offer(alloc, act, name)? {
-            return Ok(true);
+        if let Some(name) = offer(alloc, act)? {
+            names.push(name)?;
         }
     }
-    Ok(false)
+    Ok(names)
 }
 
-/// The record that others write by the row of this act, if our source offers a row of it by one of these acts.
-pub fn contested(alloc: Global, acts: &[Act], act: &Act) -> Result<Option<RecordName>, AllocError>
-    ensures { IfOk result (λ name. name ≡ spec.contested acts.now act.now) }
+/// The record that others write by the row of this act, if it is one of these.
+pub fn contested(
+    alloc: Global,
+    ours: &[RecordName],
+    act: &Act,
+) -> Result<Option<RecordName>, AllocError>
+    ensures { IfOk result (λ name. name ≡ spec.contested ours.now act.now) }
 {
     let Act::WritesRow(row) = act else {
         return Ok(None);
     };
     let name = row.record_name(alloc)?;
-    if is_offered(alloc, acts, &name)? {
-        Ok(Some(name))
-    } else {
-        Ok(None)
+    if !is_one_of(ours, &name) {
+        return Ok(None);
     }
+    Ok(Some(name))
 }
