@@ -337,13 +337,7 @@ impl<S: Alter> SqlJournal<S> {
     pub fn close(self) -> Connection<S>
         ensures { result ≡ self.conn }
     {
-        let SqlJournal {
-            conn,
-            alloc: _,
-            is_usable: _,
-            faults: _,
-            writes: _,
-        } = self;
+        let SqlJournal { conn, .. } = self;
         conn
     }
 }

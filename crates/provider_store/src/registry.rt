@@ -167,14 +167,7 @@ impl<S: Alter> SqlRegistry<S> {
     pub fn close(self) -> Connection<S>
         ensures { result ≡ self.conn }
     {
-        let SqlRegistry {
-            conn,
-            alloc: _,
-            is_usable: _,
-            count: _,
-            faults: _,
-            writes: _,
-        } = self;
+        let SqlRegistry { conn, .. } = self;
         conn
     }
 
