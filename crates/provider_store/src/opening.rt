@@ -20,7 +20,7 @@ ghost use Rattle.sql_tables.specs.Statements.{Checks, LeavesStore, Looks, WhileO
 
 use crate::format::{FORMAT, Provider, is_provider};
 use crate::tables::{Found, fault_of, find_named, find_numbered, find_page};
-use provider_core::RegistryFault;
+use provider_core::{ROWS_AT_ONCE, RegistryFault};
 use scim_key::LAST_NUMBER;
 use scim_resource::Stored;
 use sql_tables::{Mark, ask, find_mark, is_blank, number_at};
@@ -28,9 +28,6 @@ use sqlite::{Alter, Connection, Error, Row};
 use sqlite_value::value::ValueRef;
 use std::alloc::{AllocError, Global};
 use thiserror::Error as Fault;
-
-/// How many rows the check reads by one query.
-const ROWS_AT_ONCE: u32 = 200;
 
 /// Why a store couldn't be opened. Its contents are unchanged.
 #[derive(Clone, Copy, Debug, PartialEq, Eq, Fault)]

@@ -5,6 +5,7 @@ ghost use Rattle.scim_resource.specs.Contents.{content_name};
 ghost use Rattle.provider_core.specs.Rows.{AreNamedApart, IsNumberedFrom, count_if_free, page_after, row_named, row_with_id, with_row};
 ghost use Rattle.provider_core.specs.Stores.{CountsFault, CountsFaults, HasRisen, HoldsNumber};
 ghost use Rattle.provider_core.specs.declared.registry.RegistryFault.TheVariants.{Store};
+ghost use Rattle.provider_core.specs.declared.registry.TheConstants.{ROWS_AT_ONCE};
 ghost use Rattle.provider_store.specs.Calls.{Reads, Writes, OpensAgain};
 ghost use Rattle.provider_store.specs.Kept.{IsFaithful, IsHonest, IsRefused, MayHold, kept_rows};
 ghost use Rattle.provider_store.specs.Connections.{FindsName, FindsNumber, resources};
@@ -306,7 +307,7 @@ impl<S: Alter> Registry for SqlRegistry<S> {
     }
 
     fn scan(&mut self, after: u32, limit: usize) -> Result<Vec<Stored>, RegistryFault>
-        requires few { limit ≤ 200 }
+        requires few { limit ≤ ROWS_AT_ONCE }
         ensures ok { IsFaithful S.Store self.new
             → IfOk result (λ page. page.items
             ≡ page_after after limit (kept_rows S.Store self.old)) }

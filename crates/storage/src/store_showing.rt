@@ -7,13 +7,10 @@ ghost use Rattle.storage.specs.StoreShowing.{ReadsOn, ShowsFrom};
 use crate::row_storage::{RowStorage, StoredRows};
 use crate::show_fault::ShowFault;
 use crate::store_lines::row_line;
-use provider_core::Registry;
+use provider_core::{ROWS_AT_ONCE, Registry};
 use scim_resource::Stored;
 use std::alloc::Global;
 use std::io::Write;
-
-/// How many rows are in memory at a time.
-const ROWS_AT_ONCE: u32 = 100;
 
 /// Opens the rows, writes a line for each in order of creation, and closes them.
 pub fn show_rows<K: RowStorage, W: Write>(

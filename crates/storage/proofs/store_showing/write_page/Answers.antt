@@ -3,7 +3,7 @@ use Rattle.std.specs.Prelude.{OnOk}
 use Rattle.std.specs.Io.KnownBytes.{Appends}
 use Rattle.scim_resource.specs.Rows.{StoredRecord}
 use Rattle.provider_core.proofs.MemoryLaws.{page-dropped}
-use Rattle.storage.specs.declared.store_showing.TheConstants.{ROWS_AT_ONCE}
+use Rattle.provider_core.specs.declared.registry.TheConstants.{ROWS_AT_ONCE}
 use Rattle.storage.specs.StoreLines.{lines_of}
 use Rattle.storage.proofs.store_showing.write_page.Goals as goal
 

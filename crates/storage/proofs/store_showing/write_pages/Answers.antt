@@ -1,5 +1,5 @@
 use Rattle.std.proofs.Common.{◌^◌, ◌-◌, arith}
-use Rattle.storage.specs.declared.store_showing.TheConstants.{ROWS_AT_ONCE}
+use Rattle.provider_core.specs.declared.registry.TheConstants.{ROWS_AT_ONCE}
 use Rattle.storage.proofs.StoreShowingLemmas.{none_shown, more_shown, all_shown}
 use Rattle.storage.proofs.store_showing.write_pages.Goals as goal
 
