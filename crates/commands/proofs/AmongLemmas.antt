@@ -1,5 +1,5 @@
 -- A schedule of which some line isn't an event.
-use Rattle.std.proofs.Common.{◌≡◌, ◌⊎◌, ℕ, List, Result, Ok, Err, inl, inr, ap, sym, ◌∙◌}
+use Rattle.std.proofs.Common.{◌≡◌, ◌⊎◌, ℕ, List, Result, Err, inl, inr, ap, sym, ◌∙◌}
 use Rattle.world_sim.specs.declared.acting.Act.{Act}
 use Rattle.world_sim.specs.declared.events.Event.{Event}
 use Rattle.world_sim.specs.declared.schedules.ScheduleFault.{ScheduleFault}

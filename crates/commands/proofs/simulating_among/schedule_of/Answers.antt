@@ -1,4 +1,4 @@
-use Rattle.std.proofs.Common.{ap, rules, subst, sym}
+use Rattle.std.proofs.Common.{ap, subst, sym}
 use Rattle.scim_key.specs.Outcome.{GivesBy}
 use Rattle.world_sim.specs.Schedules.{acts_in, events_in}
 use Rattle.world_sim.specs.declared.schedules.ScheduleFault.TheVariants.{Memory}
