@@ -1,8 +1,9 @@
 -- Turns one after the other, from connectors that start, to records that are settled and shown.
-use Rattle.std.proofs.Common.{arith, ◌≡◌, ◌<◌, ◌+◌, ◌-◌, ◌^◌, ◌⊎◌, ℕ, zero, suc, Bool, true, false, is_some, List, [], ◌∷◌, ◌++◌, Option, Some, None, map, min, length, take, refl, ap, sym, subst, inl, inr, ◌∙◌, append-nil, append_assoc, length-append}
+use Rattle.std.proofs.Common.{arith, ◌≡◌, ◌<◌, ◌+◌, ◌-◌, ◌^◌, ◌⊎◌, ℕ, zero, suc, Bool, true, false, is_some, List, [], ◌∷◌, ◌++◌, Option, Some, None, map, min, length, take, drop, refl, ap, sym, subst, inl, inr, ◌∙◌, append-nil, append_assoc, length-append}
 use Rattle.std.proofs.Math.ListN.{get_or}
 use Rattle.std.proofs.Math.Seq.{take-suc}
-use Rattle.std.proofs.lemmas.List.{map_push, map-append}
+use Rattle.std.proofs.lemmas.List.{map_push, map-append, take-append-drop}
+use Rattle.std.proofs.lemmas.Option.{slice_get-get_or}
 use Rattle.std.specs.Io.KnownBytes.{Appends}
 use Rattle.std.specs.List.{AllByRecursion, slice_get}
 use Rattle.provider_core.specs.declared.registry.Registry.{Ghosts as Registries}
@@ -18,8 +19,17 @@ use Rattle.world_sim.specs.Events.{event_of, report_of}
 use Rattle.world_sim.specs.Messages.{message_size}
 use Rattle.world_sim.specs.Printing.{settled_lines, view_lines}
 use Rattle.world_sim.specs.Running.{IsAmong, IsSound, Starts, journal_in}
-use Rattle.world_sim.specs.Several.{Adds, AreAmong, AreSound, GoesOnSharing, HappensAt, IsNew, IsSeatAt, RunsSeveral, RunsSeveralFromEmpty, SettlesAt, SettlesEach, StartsSeveral, seat_of, seated, seats_of, turn_of, turn_report_of, turn_reports, turns_of}
-use Rattle.world_sim.specs.SeveralPrinting.{PrintsSeveral, ReachesEach, SettlesEachIf, ShowsAt, ShowsEach, turn_line, turn_lines, views_lines, views_of}
+use Rattle.world_sim.specs.Several.{Adds, FailsToStart, StopsAfterTurns, StopsAt, StopsEach, AreAmong, AreSound, GoesOnSharing, HappensAt, IsNew, IsSeatAt, RunsSeveral, RunsSeveralFromEmpty, SettlesAt, SettlesEach, StartsSeveral, seat_of, seated, seats_of, turn_of, turn_report_of, turn_reports, turns_of}
+use Rattle.world_sim.specs.SeveralPrinting.{EndsPrintingSeveral, EndsTurn, EndsTurns, PrintsSeveral, ReachesEach, SettlesEachIf, ShowsAt, ShowsEach, turn_line, turn_lines, views_lines, views_of}
+use Rattle.connector_core.specs.State.{CountsOpen}
+use Rattle.connector_core.specs.declared.opening.ConnectorOpenFault.{ConnectorOpenFault}
+use Rattle.connector_core.specs.declared.opening.ConnectorOpenFault.TheVariants as opening
+use Rattle.world_sim.specs.Events.{opening_fault}
+use Rattle.world_sim.specs.Sides.{CountsWorldFault}
+use Rattle.world_sim.specs.declared.following.TellingFault.{TellingFault}
+use Rattle.world_sim.specs.declared.following.TellingFault.TheVariants.{World, Untold}
+use Rattle.world_sim.specs.declared.reports.WorldFault.{WorldFault}
+use Rattle.world_sim.specs.declared.reports.WorldFault.TheVariants.{Memory}
 use Rattle.world_sim.specs.declared.several.Seat.{Seat}
 use Rattle.world_sim.specs.declared.several.SharedWorld.{SharedWorld}
 use Rattle.world_sim.specs.declared.several.Turn.{Turn as TurnOf}
@@ -322,3 +332,89 @@ module _ {R J : Type 0} (g : Registries R) (h : Journals J) where
     where
       many : length (seats_of ran) ≡ length journals
       many = runs.count ∙ starts.count
+
+-- ---- runs that ended early
+
+-- memory ran out, which is no fault of a store
+pub unstarted_memory : {J : Type 0} (h : Journals J) (journal : J) (fault : WorldFault) → fault ≡ Memory → FailsToStart h (journal ∷ []) fault
+unstarted_memory h journal fault memory = record { place = 0; journal = journal; is_there = refl; left = journal; counted = subst (CountsWorldFault (h.faults journal) (h.faults journal)) (sym memory) refl }
+
+pub unstarted_here : {J : Type 0} (h : Journals J) (journal left : J) (fault : WorldFault) → CountsWorldFault (h.faults journal) (h.faults left) fault → FailsToStart h (journal ∷ []) fault
+unstarted_here h journal left fault counted = record { place = 0; journal = journal; is_there = refl; left = left; counted = counted }
+
+pub opening_counts : (old new : ℕ) (fault : ConnectorOpenFault) → CountsOpen old new fault → CountsWorldFault old new (opening_fault fault)
+opening_counts old new opening.Store counts = counts
+opening_counts old new opening.Memory counts = counts
+
+-- among more journals
+only_one : {J : Type 0} (journal one : J) (place : ℕ) → slice_get (journal ∷ []) place ≡ Some one → journal ≡ one
+only_one journal one zero at = cc at
+only_one journal one (suc place) at = absurd (cc at)
+
+pub unstarted_first : {J : Type 0} (h : Journals J) (journal : J) (more : List J) (fault : WorldFault) → FailsToStart h (journal ∷ []) fault → FailsToStart h (journal ∷ more) fault
+unstarted_first h journal more fault f =
+    record { place = 0; journal = journal; is_there = refl; left = f.left; counted = subst (λ j. CountsWorldFault (h.faults j) (h.faults f.left) fault) (sym (only_one journal f.journal f.place f.is_there)) f.counted }
+
+pub unstarted_later : {J : Type 0} (h : Journals J) (first journal : J) (more : List J) (place : ℕ) (fault : WorldFault) → place < length more → journal ≡ get_or more place journal → FailsToStart h (journal ∷ []) fault
+    → FailsToStart h (first ∷ more) fault
+unstarted_later h first journal more place fault less at f = record {
+  place = suc place;
+  journal = journal;
+  is_there = slice_get-get_or more place journal less ∙ ap Some (sym at);
+  left = f.left;
+  counted = subst (λ j. CountsWorldFault (h.faults j) (h.faults f.left) fault) (sym (only_one journal f.journal f.place f.is_there)) f.counted;
+}
+
+module _ {R J : Type 0} (g : Registries R) (h : Journals J) where
+  pub stops_each : (old mid new : SharedWorld R J) (place exchanges : ℕ) (fault : WorldFault) → SettlesEach g h old mid place exchanges → StopsAt g h mid new place fault → StopsEach g h old new fault
+  stops_each old mid new place exchanges fault settles stops = record { place = place; mid = mid; exchanges = exchanges; settles = settles; stops = stops }
+
+  turns_split : (turns : List TurnOf) (i : ℕ) (turn : TurnOf) → i < length turns → turn ≡ get_or turns i turn → turns ≡ take i turns ++ turn ∷ drop (i + 1) turns
+  turns_split turns i turn less at =
+      sym (take-append-drop (i + 1) turns) ∙ ap (λ early. early ++ drop (i + 1) turns) (take_next turns i turn less at) ∙ append_assoc (take i turns) (turn ∷ []) (drop (i + 1) turns)
+
+  -- no turn failed
+  ends_after : {E : Type 0} (first : SharedWorld R J) (turns : List TurnOf) (fault : TellingFault E) → StopsAfterTurns g h first turns → EndsTurns g h first turns fault
+  ends_after first turns (World fault) stops = inr stops
+  ends_after first turns (Untold why) stops = stops
+
+  -- a turn was made whose report couldn't be kept
+  pub turn_unkept : {E : Type 0} (first last left : SharedWorld R J) (turns : List TurnOf) (i : ℕ) (turn : TurnOf) (said : List TurnReport) (report : TurnReport) (fault : TellingFault E) → i < length turns → turn ≡ get_or turns i turn
+      → RunsSeveral g h first last (take i turns) said → HappensAt g h last left turn.place (event_of turn.event) report → EndsTurns g h first turns fault
+  turn_unkept first last left turns i turn said report fault less at runs one = ends_after first turns fault (record {
+    ran = left;
+    early = take i turns ++ turn ∷ [];
+    late = drop (i + 1) turns;
+    said = said ++ report ∷ [];
+    split = turns_split turns i turn less at ∙ sym (append_assoc (take i turns) (turn ∷ []) (drop (i + 1) turns));
+    runs = several_on g h first last left (take i turns) turn said report runs one;
+  })
+
+  -- a turn failed, or its line couldn't be printed
+  pub turn_ends : {E : Type 0} (first last left : SharedWorld R J) (turns : List TurnOf) (i : ℕ) (turn : TurnOf) (said : List TurnReport) (fault : TellingFault E) → i < length turns → turn ≡ get_or turns i turn
+      → RunsSeveral g h first last (take i turns) said → EndsTurn g h last left turn fault → EndsTurns g h first turns fault
+  turn_ends first last left turns i turn said (World fault) less at runs fails = inl (record {
+    last = last;
+    left = left;
+    early = take i turns;
+    turn = turn;
+    late = drop (i + 1) turns;
+    said = said;
+    split = turns_split turns i turn less at;
+    runs = runs;
+    fails = fails;
+  })
+  turn_ends first last left turns i turn said (Untold why) less at runs (last_said, one) = turn_unkept first last left turns i turn said last_said (Untold why) less at runs one
+
+  -- all turns were made
+  pub ends_started : {E : Type 0} (first ran : SharedWorld R J) (registry : R) (journals : List J) (base : List ℕ) (turns : List TurnOf) (said : List TurnReport) (fault : TellingFault E)
+      → StartsSeveral g h registry journals base first → RunsSeveral g h first ran turns said → EndsPrintingSeveral g h registry journals base turns fault
+  ends_started first ran registry journals base turns said fault starts runs = inr (record {
+    first = first;
+    starts = starts;
+    ends = ends_after first turns fault (record { ran = ran; early = turns; late = []; said = said; split = sym (append-nil turns); runs = runs });
+  })
+
+  pub ends_in_turns : {E : Type 0} (first : SharedWorld R J) (registry : R) (journals : List J) (base : List ℕ) (turns : List TurnOf) (fault : TellingFault E)
+      → StartsSeveral g h registry journals base first → EndsTurns g h first turns fault → EndsPrintingSeveral g h registry journals base turns fault
+  ends_in_turns first registry journals base turns fault starts ends = inr (record { first = first; starts = starts; ends = ends })

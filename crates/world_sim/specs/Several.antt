@@ -17,6 +17,7 @@ use Rattle.world_sim.specs.Events.{event_of, report_of}
 use Rattle.world_sim.specs.Messages.{message_size}
 use Rattle.world_sim.specs.Running.{Happens, IsAmong, IsSound, Starts, journal_in}
 use Rattle.world_sim.specs.Settling.{IsSettling, Settles, Stops}
+use Rattle.world_sim.specs.Sides.{CountsWorldFault}
 use Rattle.world_sim.specs.declared.reports.WorldFault.{WorldFault}
 use Rattle.world_sim.specs.declared.settling.Count.{Count}
 use Rattle.world_sim.specs.declared.several.Seat.{Seat}
@@ -163,6 +164,14 @@ pub record Adds {R J : Type 0} (g : Registries R) (h : Journals J) (old new : Sh
   pub added : new.others.items ≡ old.others.items ++ seat ∷ []
   pub starts : Starts g h old.first.provider journal (seated old.first seat)
 
+-- A connector didn't start over one of these journals: a fault of the journal's store was counted, or memory ran out
+pub record FailsToStart {J : Type 0} (h : Journals J) (journals : List J) (fault : WorldFault) : Type 0 where
+  pub place : ℕ
+  pub journal : J
+  pub is_there : slice_get journals place ≡ Some journal
+  pub left : J
+  pub counted : CountsWorldFault (h.faults journal) (h.faults left) fault
+
 -- ---- whole runs
 
 -- What ran is the model's run of the turns, with its reports. After each turn it was safe for each connector's records,
@@ -224,3 +233,37 @@ pub record SettlesEach {R J : Type 0} (g : Registries R) (h : Journals J) (old n
   pub count : length (seats_of new) ≡ length (seats_of old)
   pub is : AreSound g h new → {ours : ℕ → Names} (s : Shared) → AreAmong g h ours old s
       → (t : Shared) × AreSettling s place exchanges t × AreAmong g h ours new t
+
+-- the records of the sides before a place were settled, and an event on the side at that place failed
+pub record StopsEach {R J : Type 0} (g : Registries R) (h : Journals J) (old new : SharedWorld R J) (fault : WorldFault)
+    : Type 0 where
+  pub place : ℕ
+  pub mid : SharedWorld R J
+  pub exchanges : ℕ
+  pub settles : SettlesEach g h old mid place exchanges
+  pub stops : StopsAt g h mid new place fault
+
+-- ---- runs that ended early
+
+-- the turns before one were made, and that one failed: an event on its side did, and all other sides are unchanged
+pub record FailsAtTurn {R J : Type 0} (g : Registries R) (h : Journals J) (first : SharedWorld R J)
+    (turns : List TurnOf) (fault : WorldFault) : Type 0 where
+  pub last : SharedWorld R J
+  pub left : SharedWorld R J
+  pub early : List TurnOf
+  pub turn : TurnOf
+  pub late : List TurnOf
+  pub said : List TurnReport
+  pub split : turns ≡ early ++ turn ∷ late
+  pub runs : RunsSeveral g h first last early said
+  pub fails : FailsAtPlace g h last left turn.place (event_of turn.event) fault
+
+-- the first of these turns were made, and none failed
+pub record StopsAfterTurns {R J : Type 0} (g : Registries R) (h : Journals J) (first : SharedWorld R J)
+    (turns : List TurnOf) : Type 0 where
+  pub ran : SharedWorld R J
+  pub early : List TurnOf
+  pub late : List TurnOf
+  pub said : List TurnReport
+  pub split : turns ≡ early ++ late
+  pub runs : RunsSeveral g h first ran early said

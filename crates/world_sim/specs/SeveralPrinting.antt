@@ -1,4 +1,5 @@
 -- Runs of several connectors whose reports and records are printed.
+use Rattle.std.specs.Prelude.{◌⊎◌}
 use Rattle.std.specs.Prelude.{◌≡◌, ◌+◌, ℕ, zero, suc, Bool, true, false, List, [], ◌∷◌, ◌++◌, Option, Some, None}
 use Rattle.std.specs.Prelude.{codes, is_some, length, map}
 use Rattle.std.specs.Fmt.{decimal}
@@ -11,8 +12,12 @@ use Rattle.world_model.specs.Several.{Shared, nobody, world_at, run_several, Non
 use Rattle.world_model.specs.World.{names as world_names}
 use Rattle.world_sim.specs.Lines.{report_text}
 use Rattle.world_sim.specs.Printing.{ShowsAll, settled_lines, view_lines}
+use Rattle.world_sim.specs.Events.{event_of}
+use Rattle.world_sim.specs.Several.{FailsAtPlace, FailsAtTurn, FailsToStart, HappensAt, StartsSeveral, StopsAfterTurns}
 use Rattle.world_sim.specs.Several.{AreAmong, AreSettling, AreSound, IsDoneAt, IsNew, IsRunSeveral, SettlesEach, seats_of, turns_of}
 use Rattle.world_sim.specs.Views.{view}
+use Rattle.world_sim.specs.declared.following.TellingFault.{TellingFault}
+use Rattle.world_sim.specs.declared.following.TellingFault.TheVariants.{World, Untold}
 use Rattle.world_sim.specs.declared.several.SharedWorld.{SharedWorld}
 use Rattle.world_sim.specs.declared.several.Turn.{Turn}
 use Rattle.world_sim.specs.declared.several.TurnReport.{TurnReport}
@@ -104,3 +109,36 @@ pub record PrintsSeveral {R J : Type 0} (g : Registries R) (h : Journals J) (reg
   pub so : g.is_faithful registry → g.rows registry ≡ [] → AllByRecursion (IsNew h) journals
       → AreSound g h printed.world → (ours : ℕ → Names) → NoneShared ours → EachItsOwn ours (turns_of turns)
       → IsOfSeveral g h ours base turns printed.reports.items (length journals) count (map (λ views. views.items) printed.views.items)
+
+-- ---- why a run ended early
+
+-- a turn failed, or it was made and its line couldn't be printed
+abbrev pub EndsTurn : {R J E : Type 0} → Registries R → Journals J → (old new : SharedWorld R J) → Turn
+    → TellingFault E → Type 0
+EndsTurn g h old new turn (World fault) = FailsAtPlace g h old new turn.place (event_of turn.event) fault
+EndsTurn g h old new turn (Untold why) =
+    (said : TurnReport) × HappensAt g h old new turn.place (event_of turn.event) said
+
+-- a turn failed; or no turn did, and a line couldn't be printed, or something failed after the turns
+abbrev pub EndsTurns : {R J E : Type 0} → Registries R → Journals J → (first : SharedWorld R J) → List Turn
+    → TellingFault E → Type 0
+EndsTurns g h first turns (World fault) = FailsAtTurn g h first turns fault ⊎ StopsAfterTurns g h first turns
+EndsTurns g h first turns (Untold why) = StopsAfterTurns g h first turns
+
+-- the turns of connectors that started over these journals ended so
+pub record EndsStarted {R J E : Type 0} (g : Registries R) (h : Journals J) (registry : R) (journals : List J)
+    (base : List ℕ) (turns : List Turn) (fault : TellingFault E) : Type 0 where
+  pub first : SharedWorld R J
+  pub starts : StartsSeveral g h registry journals base first
+  pub ends : EndsTurns g h first turns fault
+
+-- a connector didn't start
+abbrev pub IsUnstartedSeveral : {J E : Type 0} → Journals J → List J → TellingFault E → Type 0
+IsUnstartedSeveral h journals (World fault) = FailsToStart h journals fault
+IsUnstartedSeveral h journals (Untold why) = ⊥
+
+-- Why a run ended early: a connector didn't start, or the run ended after some of the turns
+abbrev pub EndsPrintingSeveral : {R J E : Type 0} → Registries R → Journals J → R → List J → (base : List ℕ)
+    → List Turn → TellingFault E → Type 0
+EndsPrintingSeveral g h registry journals base turns fault =
+    IsUnstartedSeveral h journals fault ⊎ EndsStarted g h registry journals base turns fault

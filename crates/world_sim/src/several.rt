@@ -1,7 +1,8 @@
 //! Several connectors that share one provider, each with a journal, a book and messages of its own.
 ghost use Rattle.std.specs.Prelude.{◌≡◌, ◌<◌, ◌++◌, ◌∷◌, [], IfErr, IfOk, OnOk, length};
 ghost use Rattle.world_sim.specs.Events.{event_of};
-ghost use Rattle.world_sim.specs.Several.{Adds, FailsAtPlace, HappensAt, IsSeatAt, SettlesAt, SettlesEach, StartsSeveral, StopsAt, others_with, seat_of, seated, seats_of};
+ghost use Rattle.world_sim.specs.Several.{Adds, FailsAtPlace, FailsToStart, HappensAt, IsSeatAt, SettlesAt, SettlesEach, StartsSeveral, StopsAt, StopsEach, others_with, seat_of, seated, seats_of};
+ghost use Rattle.world_sim.specs.declared.reports.WorldFault.TheVariants.{Memory};
 
 use crate::events::Event;
 use crate::messages::Sent;
@@ -95,7 +96,8 @@ impl<R: Registry + Drop, J: Journal + Drop> SharedWorld<R, J> {
 
 /// Adds a side at the end.
 fn keep<J: Journal + Drop>(others: &mut Vec<Seat<J>>, seat: Seat<J>) -> Result<(), WorldFault>
-    ensures { OnOk result (others.new.items ≡ others.old.items ++ seat ∷ []) }
+    ensures kept { OnOk result (others.new.items ≡ others.old.items ++ seat ∷ []) }
+    ensures memory { IfErr result (λ fault. fault ≡ Memory) }
 {
     others.push(seat)?;
     Ok(())
@@ -111,6 +113,7 @@ impl<R: Registry + Drop, J: Journal + Drop> SharedWorld<R, J> {
     ) -> Result<SharedWorld<R, J>, WorldFault>
         ensures starts { IfOk result
             (StartsSeveral R.Registry J.Journal registry (journal ∷ []) base) }
+        ensures fault { IfErr result (FailsToStart J.Journal (journal ∷ [])) }
     {
         match World::new(alloc, registry, journal, base) {
             Ok(first) => Ok(SharedWorld {
@@ -124,6 +127,7 @@ impl<R: Registry + Drop, J: Journal + Drop> SharedWorld<R, J> {
     /// One connector more, over this journal. It has the next number.
     fn add(&mut self, journal: J) -> Result<(), WorldFault>
         ensures adds { OnOk result (Adds R.Registry J.Journal self.old self.new journal) }
+        ensures fault { IfErr result (FailsToStart J.Journal (journal ∷ [])) }
     {
         keeps_form(self.first.service.base());
         match Connector::open(self.first.alloc, journal) {
@@ -149,6 +153,7 @@ impl<R: Registry + Drop, J: Journal + Drop> SharedWorld<R, J> {
     ) -> Result<SharedWorld<R, J>, WorldFault>
         ensures starts { IfOk result
             (StartsSeveral R.Registry J.Journal registry (first ∷ others.items) base) }
+        ensures fault { IfErr result (FailsToStart J.Journal (first ∷ others.items)) }
     {
         let mut world = SharedWorld::new(alloc, registry, first, base)?;
         for journal in others {
@@ -174,6 +179,7 @@ impl<R: Registry + Drop, J: Journal + Drop> SharedWorld<R, J> {
     pub fn settle(&mut self) -> Result<Count, WorldFault>
         ensures settles { IfOk result (λ count. SettlesEach R.Registry J.Journal self.old self.new
             (length (seats_of self.old)) count.exchanges) }
+        ensures stops { IfErr result (StopsEach R.Registry J.Journal self.old self.new) }
     {
         let mut exchanges: u32 = 0;
         for place in 0..self.count() {

@@ -1,11 +1,11 @@
 //! Runs of several connectors whose reports and records are printed.
-ghost use Rattle.std.specs.Prelude.{◌≡◌, ◌<◌, ◌++◌, ◌∷◌, ◌+◌, [], IfOk, OnOk, length, map};
+ghost use Rattle.std.specs.Prelude.{◌≡◌, ◌<◌, ◌++◌, ◌∷◌, ◌+◌, [], IfErr, IfOk, OnOk, length, map};
 ghost use Rattle.std.specs.Io.KnownBytes.{Appends};
 ghost use Rattle.std.specs.List.{AllByRecursion};
 ghost use Rattle.world_sim.specs.Events.{event_of};
 ghost use Rattle.world_sim.specs.Printing.{settled_lines, view_lines};
 ghost use Rattle.world_sim.specs.Several.{HappensAt, IsBelow, RunsSeveral, seats_of};
-ghost use Rattle.world_sim.specs.SeveralPrinting.{PrintsSeveral, SettlesEachIf, ShowsAt, ShowsEach, turn_line, turn_lines, views_lines};
+ghost use Rattle.world_sim.specs.SeveralPrinting.{EndsPrintingSeveral, EndsTurn, EndsTurns, PrintsSeveral, SettlesEachIf, ShowsAt, ShowsEach, turn_line, turn_lines, views_lines};
 
 use crate::following::TellingFault;
 use crate::printing::{flush, print_count, print_views};
@@ -50,6 +50,7 @@ fn print_turn<R: Reopen + Drop, J: ReopenJournal + Drop, W: Write>(
         (event_of turn.now.event)) }
     ensures line { IfOk result (λ said. Appends (W.contents out.old) (W.contents out.new)
         (turn_line number said)) }
+    ensures fault { IfErr result (EndsTurn R.Registry J.Journal world.old world.new turn.now) }
 {
     let said = world.step(turn.place, &turn.event)?;
     print_said(out, number, &said)?;
@@ -76,6 +77,7 @@ fn print_turns<R: Reopen + Drop, J: ReopenJournal + Drop, W: Write>(
         turns.now said.items) }
     ensures lines { IfOk result (λ said. Appends (W.contents out.old) (W.contents out.new)
         (turn_lines 1 said.items)) }
+    ensures fault { IfErr result (EndsTurns R.Registry J.Journal world.old turns.now) }
 {
     let mut said = Vec::new(alloc);
     for turn in turns {
@@ -170,6 +172,8 @@ pub fn print_several<R: Reopen + Drop, J: ReopenJournal + Drop, W: Write>(
     requires { AllByRecursion (IsBelow (length others.items + 1)) turns.now }
     ensures prints { IfOk result (PrintsSeveral R.Registry J.Journal registry (first ∷ others.items)
         base turns.now settles (W.contents out.old) (W.contents out.new)) }
+    ensures fault { IfErr result (EndsPrintingSeveral R.Registry J.Journal registry
+        (first ∷ others.items) base turns.now) }
 {
     let mut world = SharedWorld::start(alloc, registry, first, others, base)?;
     let reports = print_turns(alloc, &mut world, turns, out)?;
