@@ -43,9 +43,9 @@ def write_users(path, count):
 # ---- programs in Rattle beside the crates that they call
 
 
-def crates():
-    """What each crate of the repository stands on."""
-    lines = (TOP / "crates.txt").read_text(encoding="utf-8").splitlines()
+def crates(top=TOP):
+    """What each crate of a checkout stands on."""
+    lines = (top / "crates.txt").read_text(encoding="utf-8").splitlines()
     pairs = [line.split(":") for line in lines if ":" in line and not line.startswith("#")]
     return {name.split()[0]: below.split() for name, below in pairs}
 
@@ -61,17 +61,17 @@ def below(names, all_crates):
     return found
 
 
-def lay_out(room, programs):
-    """Copies into a folder what these programs call. The source of NAME is NAME.rattle, here."""
-    room, all_crates = pathlib.Path(room), crates()
+def lay_out(room, programs, top=TOP):
+    """Copies into a folder what these programs call, from a checkout. The source of NAME is NAME.rattle, here."""
+    room, all_crates = pathlib.Path(room), crates(top)
     wanted = below([crate for libraries in programs.values() for crate in libraries], all_crates)
     for name in wanted:
-        shutil.copytree(TOP / "crates" / name, room / "crates" / name)
+        shutil.copytree(top / "crates" / name, room / "crates" / name)
     rows = {name: all_crates[name] for name in wanted}
     rows |= {f"{name}_bench": libraries for name, libraries in programs.items()}
     text = "".join(f"{name}: {' '.join(libraries)}\n" for name, libraries in rows.items())
     (room / "crates.txt").write_text(text, encoding="utf-8")
-    shutil.copy(TOP / "HANDLES", room)
+    shutil.copy(top / "HANDLES", room)
     for name in programs:
         source = room / "crates" / f"{name}_bench" / "src"
         source.mkdir(parents=True)
