@@ -123,5 +123,7 @@ fn run_several<R: Runtime + AllocGlobal>(
     let registry = MemoryRegistry::new(rt.alloc());
     let first = MemoryJournal::new(rt.alloc());
     let alloc = rt.alloc();
-    simulate_several(alloc, registry, first, others, base, seed, count, settles, &mut out)
+    simulate_several(
+        alloc, registry, first, others, base, seed, count, settles, &mut out,
+    )
 }

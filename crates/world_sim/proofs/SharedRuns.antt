@@ -20,7 +20,7 @@ use Rattle.world_sim.specs.Messages.{message_size}
 use Rattle.world_sim.specs.Printing.{settled_lines, view_lines}
 use Rattle.world_sim.specs.Running.{IsAmong, IsSound, Starts, journal_in}
 use Rattle.world_sim.specs.Several.{Adds, FailsToStart, StopsAfterTurns, StopsAt, StopsEach, AreAmong, AreSound, GoesOnSharing, HappensAt, IsNew, IsSeatAt, RunsSeveral, RunsSeveralFromEmpty, SettlesAt, SettlesEach, StartsSeveral, seat_of, seated, seats_of, turn_of, turn_report_of, turn_reports, turns_of}
-use Rattle.world_sim.specs.SeveralPrinting.{EndsPrintingSeveral, EndsTurn, EndsTurns, PrintsSeveral, ReachesEach, SettlesEachIf, ShowsAt, ShowsEach, turn_line, turn_lines, views_lines, views_of}
+use Rattle.world_sim.specs.SeveralPrinting.{EndsPrintingSeveral, EndsTurn, EndsTurns, PrintsSeveral, ReachesEach, SettlesEachIf, ShowsAt, ShowsEachSide, turn_line, turn_lines, views_lines, views_of}
 use Rattle.connector_core.specs.State.{CountsOpen}
 use Rattle.connector_core.specs.declared.opening.ConnectorOpenFault.{ConnectorOpenFault}
 use Rattle.connector_core.specs.declared.opening.ConnectorOpenFault.TheVariants as opening
@@ -257,14 +257,14 @@ module _ {R J : Type 0} (g : Registries R) (h : Journals J) where
 
   -- ---- views
 
-  pub none_shown_each : (r : SharedWorld R J) → ShowsEach g h r r 0 []
+  pub none_shown_each : (r : SharedWorld R J) → ShowsEachSide g h r r 0 []
   none_shown_each r = record { was = λ sound. sound; count = refl; is = λ sound s among. among; shown = λ sound s among. refl }
 
   pub one_shown_each : (old mid new : SharedWorld R J) (place : ℕ) (all : List (List View)) (views : List View)
-      → ShowsEach g h old mid place all → ShowsAt g h mid new place views → ShowsEach g h old new (place + 1) (all ++ views ∷ [])
+      → ShowsEachSide g h old mid place all → ShowsAt g h mid new place views → ShowsEachSide g h old new (place + 1) (all ++ views ∷ [])
   one_shown_each old mid new place all views far one =
       let next : place + 1 ≡ suc place = omega arith in
-      subst (λ n. ShowsEach g h old new n (all ++ views ∷ [])) (sym next) (record {
+      subst (λ n. ShowsEachSide g h old new n (all ++ views ∷ [])) (sym next) (record {
         was = λ sound. far.was (was sound);
         count = one.count ∙ far.count;
         is = λ sound s among.
@@ -309,7 +309,7 @@ module _ {R J : Type 0} (g : Registries R) (h : Journals J) where
   pub all_printed_several : (first ran settled : SharedWorld R J) (registry : R) (journals : List J) (base : List ℕ) (turns : List TurnOf) (asked : Bool) (count : Option Count)
       (before : Option (List ℕ)) (after : Option (List ℕ)) (printed : PrintedSeveral R J)
       → StartsSeveral g h registry journals base first → RunsSeveral g h first ran turns printed.reports.items → SettlesEachIf g h asked ran settled count
-      → ShowsEach g h settled printed.world (length (seats_of settled)) (map (λ views. views.items) printed.views.items)
+      → ShowsEachSide g h settled printed.world (length (seats_of settled)) (map (λ views. views.items) printed.views.items)
       → Appends before after (turn_lines 1 printed.reports.items ++ (settled_lines count ++ views_lines (map (λ views. views.items) printed.views.items)))
       → PrintsSeveral g h registry journals base turns asked before after printed
   all_printed_several first ran settled registry journals base turns asked count before after printed starts runs settles shows lines = record {

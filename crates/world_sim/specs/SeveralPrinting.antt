@@ -67,7 +67,7 @@ views_of s (suc place) =
     views_of s place ++ map (view (world_at s place)) (world_names (world_at s place)) ∷ []
 
 -- a look at every record of the sides before this place: they share what they shared before, and these are the views
-pub record ShowsEach {R J : Type 0} (g : Registries R) (h : Journals J) (old new : SharedWorld R J) (place : ℕ)
+pub record ShowsEachSide {R J : Type 0} (g : Registries R) (h : Journals J) (old new : SharedWorld R J) (place : ℕ)
     (views : List (List View)) : Type 0 where
   pub was : AreSound g h new → AreSound g h old
   pub count : length (seats_of new) ≡ length (seats_of old)

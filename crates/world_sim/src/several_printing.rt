@@ -5,7 +5,7 @@ ghost use Rattle.std.specs.List.{AllByRecursion};
 ghost use Rattle.world_sim.specs.Events.{event_of};
 ghost use Rattle.world_sim.specs.Printing.{settled_lines, view_lines};
 ghost use Rattle.world_sim.specs.Several.{HappensAt, IsBelow, RunsSeveral, seats_of};
-ghost use Rattle.world_sim.specs.SeveralPrinting.{EndsPrintingSeveral, EndsTurn, EndsTurns, PrintsSeveral, SettlesEachIf, ShowsAt, ShowsEach, turn_line, turn_lines, views_lines};
+ghost use Rattle.world_sim.specs.SeveralPrinting.{EndsPrintingSeveral, EndsTurn, EndsTurns, PrintsSeveral, SettlesEachIf, ShowsAt, ShowsEachSide, turn_line, turn_lines, views_lines};
 
 use crate::following::TellingFault;
 use crate::printing::{flush, print_count, print_views};
@@ -142,7 +142,7 @@ fn print_all_views<R: Registry + Drop, J: Journal + Drop, W: Write>(
     world: &mut SharedWorld<R, J>,
     out: &mut W,
 ) -> Result<Vec<Vec<View>>, TellingFault<io::Error>>
-    ensures shows { IfOk result (λ all. ShowsEach R.Registry J.Journal world.old world.new
+    ensures shows { IfOk result (λ all. ShowsEachSide R.Registry J.Journal world.old world.new
         (length (seats_of world.old)) (map (λ views. views.items) all.items)) }
     ensures lines { IfOk result (λ all. Appends (W.contents out.old) (W.contents out.new)
         (views_lines (map (λ views. views.items) all.items))) }

@@ -3,7 +3,7 @@ use Rattle.std.proofs.KnownBytes.{Appends-trans}
 use Rattle.std.proofs.lemmas.List.{map_push}
 use Rattle.std.specs.Io.KnownBytes.{Appends}
 use Rattle.world_sim.specs.Printing.{view_lines}
-use Rattle.world_sim.specs.SeveralPrinting.{ShowsEach, views_lines}
+use Rattle.world_sim.specs.SeveralPrinting.{ShowsEachSide, views_lines}
 use Rattle.world_sim.proofs.SharedRuns.{one_shown_each, views_lines-push}
 use Rattle.world_sim.proofs.several_printing.print_all_views.Goals as goal
 
@@ -17,7 +17,7 @@ loop-place-preserved g c =
     c.loop-place.invariant.0 c.in_ok-views.ensures.shows in
     let lines = Appends-trans (g.W.Write.contents c.args.out.now) (g.W.Write.contents c.loop-place.out) (g.W.Write.contents c.print_views_at.new.out) (views_lines (map (λ views. views.items) all)) (view_lines views.items)
     c.loop-place.invariant.1 c.in_ok-views.ensures.lines in (
-      subst (ShowsEach g.R.Registry g.J.Journal c.args.world.now c.print_views_at.new.self (c.loop-place.place + 1)) (sym mapped) shows,
+      subst (ShowsEachSide g.R.Registry g.J.Journal c.args.world.now c.print_views_at.new.self (c.loop-place.place + 1)) (sym mapped) shows,
       subst (Appends (g.W.Write.contents c.args.out.now) (g.W.Write.contents c.print_views_at.new.out))
           (sym (views_lines-push (map (λ views. views.items) all) views.items) ∙ ap views_lines (sym mapped)) lines,
     )
