@@ -1,6 +1,7 @@
 -- What a `simulate` does, its exit status, and why it ends early.
 use Rattle.std.specs.Prelude.{◌≡◌, ℕ, Bool, List, Option, Some, length, map}
 use Rattle.std.specs.declared.io.Error.{Error}
+use Rattle.std.specs.List.{list_all}
 use Rattle.provider_core.specs.declared.registry.Registry.{Ghosts as Registries}
 use Rattle.journal_core.specs.declared.journals.Journal.{Ghosts as Journals}
 use Rattle.world_model.specs.World.{Event}
@@ -14,7 +15,7 @@ use Rattle.world_sim.specs.declared.printing.Printed.{Printed}
 use Rattle.world_sim.specs.declared.printing.ReportLines.{ReportLines}
 use Rattle.world_sim.specs.declared.several.Turn.{Turn}
 use Rattle.world_sim.specs.declared.several_printing.PrintedSeveral.{PrintedSeveral}
-use Rattle.commands.specs.Statuses.{several_status, simulated_status, telling_fault}
+use Rattle.commands.specs.Statuses.{is_confirmed, several_status, simulated_status, telling_fault}
 use Rattle.commands.specs.declared.status.CommandFault.{CommandFault}
 use Rattle.commands.specs.declared.status.Status.{Status}
 
@@ -43,5 +44,5 @@ pub record SimulatesSeveral {R J : Type 0} (g : Registries R) (h : Journals J) (
       → map Some turns ≡ seed_draws_turns records_in seed (length journals) count
   pub printed : PrintedSeveral R J
   pub prints : PrintsSeveral g h registry journals base turns asked before after printed
-  pub status_is : status
-      ≡ several_status printed.reports.items (map (λ views. views.items) printed.views.items)
+  pub status_is : status ≡ several_status printed.reports.items
+      (list_all (λ views. list_all is_confirmed views.items) printed.views.items)

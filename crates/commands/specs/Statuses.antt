@@ -200,10 +200,10 @@ is_confirmed view = same_revision view.confirmed view.wanted
 abbrev pub simulated_status : List Report → List View → Status
 simulated_status reports views = if list_all is_taken reports && list_all is_confirmed views then Done else Refused
 
--- the same for the turns and the records of several connectors
-abbrev pub several_status : List TurnReport → List (List View) → Status
-several_status reports views =
-    if list_all (λ said. is_taken said.report) reports && list_all (list_all is_confirmed) views then Done else Refused
+-- the same for the turns of several connectors, by whether every record of each is confirmed
+abbrev pub several_status : List TurnReport → (confirmed : Bool) → Status
+several_status reports confirmed =
+    if list_all (λ said. is_taken said.report) reports && confirmed then Done else Refused
 
 -- the fault of a run with its own provider
 abbrev pub loop_fault : LoopFault → CommandFault

@@ -1,5 +1,5 @@
 //! The exit status of a run, by its result.
-ghost use Rattle.std.specs.Prelude.{◌≡◌, map};
+ghost use Rattle.std.specs.Prelude.{◌≡◌};
 ghost use Rattle.std.specs.List.{list_all};
 ghost use Rattle.commands.specs.Statuses.{carried_status, is_confirmed, is_taken, outcome_status, pushed_status, run_status, several_status, shown_status, simulated_status};
 
@@ -99,8 +99,7 @@ fn are_all_taken(reports: &[TurnReport]) -> bool
 }
 
 fn are_all_confirmed(views: &[Vec<View>]) -> bool
-    ensures { result
-        ≡ list_all (list_all is_confirmed) (map (λ views. views.items) views.now) }
+    ensures { result ≡ list_all (λ views. list_all is_confirmed views.items) views.now }
 {
     views.iter().all(|views| are_confirmed(views.as_slice()))
 }
@@ -108,7 +107,8 @@ fn are_all_confirmed(views: &[Vec<View>]) -> bool
 /// The exit status of a run of several connectors, with these reports of its turns and these views of the
 /// records of each.
 pub fn several_status(reports: &[TurnReport], views: &[Vec<View>]) -> Status
-    ensures { result ≡ several_status reports.now (map (λ views. views.items) views.now) }
+    ensures { result ≡ several_status reports.now
+        (list_all (λ views. list_all is_confirmed views.items) views.now) }
 {
     if are_all_taken(reports) && are_all_confirmed(views) {
         Status::Done

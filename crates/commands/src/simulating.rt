@@ -66,7 +66,7 @@ pub fn wanted_connectors(
     events: Events<'_>,
     connectors: Option<u32>,
 ) -> Result<Option<u32>, CommandFault>
-    ensures { result ≡ wanted_connectors events connectors }
+    ensures { result ≡ wanted_connectors events.entry connectors }
 {
     match (events, connectors) {
         (_, None) => Ok(None),

@@ -8,7 +8,7 @@ use crate::status::{CommandFault, Status};
 use journal_core::ReopenJournal;
 use provider_core::Reopen;
 use scim_key::Base;
-use std::alloc::Global;
+use std::alloc::{AllocError, Global};
 use std::io::Write;
 use world_sim::{Event, ReportLines, print_run, print_several, random_turns};
 
@@ -53,7 +53,7 @@ pub fn simulate_several<R: Reopen + Drop, J: ReopenJournal + Drop, W: Write>(
         (SimulatesSeveral R.Registry J.Journal registry (first ∷ others.items) base seed count
         settles (W.contents out.old) (W.contents out.new)) }
 {
-    let connectors = others.len() + 1;
+    let connectors = others.len().checked_add(1).ok_or(AllocError)?;
     let turns = random_turns(alloc, seed, count, connectors)?;
     match print_several(
         alloc,

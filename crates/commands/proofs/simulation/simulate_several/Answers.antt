@@ -1,0 +1,17 @@
+use Rattle.std.proofs.Common.{arith, ◌≡◌, ◌+◌, ◌∷◌, ap, length, rules, ◌∙◌}
+use Rattle.world_sim.specs.Random.{seed_draws_turns}
+use Rattle.commands.proofs.simulation.simulate_several.Goals as goal
+
+pub returns-in-Ok : goal.returns-in-Ok
+returns-in-Ok g c =
+    let many : length c.args.others.items + 1 ≡ length (c.args.first ∷ c.args.others.items) = omega arith in
+    let connectors : c.in_ok-connectors.connectors ≡ length c.args.others.items + 1 = search rules in
+    record {
+      done = record {
+        turns = c.in_ok-turns.turns.items;
+        drawn = λ records_in reads. c.in_ok-turns.ensures.drawn records_in reads ∙ ap (λ n. seed_draws_turns records_in c.args.seed n c.args.count) (connectors ∙ many);
+        printed = c.in-Ok.printed;
+        prints = c.in-Ok.ensures.prints;
+        status_is = search rules;
+      };
+    }
