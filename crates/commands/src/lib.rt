@@ -22,7 +22,9 @@ mod status;
 pub mod words;
 
 pub use answering::{answer, answer_one, answer_stored};
-pub use endings::{outcome_status, pushed_status, run_status, several_status, shown_status, simulated_status};
+pub use endings::{
+    outcome_status, pushed_status, run_status, several_status, shown_status, simulated_status,
+};
 pub use images::{map, print_images};
 pub use jobs::Job;
 pub use looping::carry;

@@ -70,11 +70,8 @@ pub fn wanted_connectors(
 {
     match (events, connectors) {
         (_, None) => Ok(None),
-        (Events::Random { .. }, Some(connectors))
-            if (1..=MOST_CONNECTORS).contains(&connectors) =>
-        {
-            Ok(Some(connectors))
-        }
+        (Events::Random { .. }, Some(connectors)) if (1..=MOST_CONNECTORS).contains(&connectors) =>
+            { Ok(Some(connectors)) }
         (_, Some(_)) => Err(CommandFault::Events(EventsFault::Connectors)),
     }
 }

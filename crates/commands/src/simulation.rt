@@ -55,11 +55,17 @@ pub fn simulate_several<R: Reopen + Drop, J: ReopenJournal + Drop, W: Write>(
 {
     let connectors = others.len().checked_add(1).ok_or(AllocError)?;
     let turns = random_turns(alloc, seed, count, connectors)?;
-    match print_several(alloc, registry, first, others, base, turns.as_slice(), settles, out) {
-        Ok(printed) => Ok(several_status(
-            printed.reports.as_slice(),
-            printed.views.as_slice(),
-        )),
+    match print_several(
+        alloc,
+        registry,
+        first,
+        others,
+        base,
+        turns.as_slice(),
+        settles,
+        out,
+    ) {
+        Ok(printed) => Ok(several_status(printed.reports.as_slice(), printed.views.as_slice())),
         Err(fault) => Err(CommandFault::from(fault)),
     }
 }

@@ -235,9 +235,7 @@ static COMMANDS: &[CommandText] = &[
                 name: "connectors",
                 value: Value::Count,
                 rule: Rule::Optional,
-                help: Help::Text(
-                    "how many connectors share the provider, 1 to 100, with a seed",
-                ),
+                help: Help::Text("how many connectors share the provider, 1 to 100, with a seed"),
             },
             OptionText {
                 name: "settle",
