@@ -70,8 +70,9 @@ pub fn wanted_connectors(
 {
     match (events, connectors) {
         (_, None) => Ok(None),
-        (Events::Random { .. }, Some(connectors)) if (1..=MOST_CONNECTORS).contains(&connectors) =>
-            { Ok(Some(connectors)) }
+        (Events::Random { .. }, Some(number)) if (1..=MOST_CONNECTORS).contains(&number) => {
+            Ok(Some(number))
+        }
         (_, Some(_)) => Err(CommandFault::Events(EventsFault::Connectors)),
     }
 }

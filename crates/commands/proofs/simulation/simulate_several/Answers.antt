@@ -1,17 +1,20 @@
-use Rattle.std.proofs.Common.{arith, ◌≡◌, ◌+◌, ◌∷◌, ap, length, rules, ◌∙◌}
+use Rattle.std.proofs.Common.{arith, ◌≡◌, ◌+◌, ◌∷◌, ap, length, rules, subst, ◌∙◌}
 use Rattle.world_sim.specs.Random.{seed_draws_turns}
+use Rattle.world_sim.specs.SeveralPrinting.{PrintsSeveral}
 use Rattle.commands.proofs.simulation.simulate_several.Goals as goal
 
 pub returns-in-Ok : goal.returns-in-Ok
 returns-in-Ok g c =
     let many : length c.args.others.items + 1 ≡ length (c.args.first ∷ c.args.others.items) = omega arith in
     let connectors : c.in_ok-connectors.connectors ≡ length c.args.others.items + 1 = search rules in
+    let same : c.as_slice.result.now ≡ c.in_ok-turns.turns.items = search rules in
     record {
       done = record {
         turns = c.in_ok-turns.turns.items;
         drawn = λ records_in reads. c.in_ok-turns.ensures.drawn records_in reads ∙ ap (λ n. seed_draws_turns records_in c.args.seed n c.args.count) (connectors ∙ many);
         printed = c.in-Ok.printed;
-        prints = c.in-Ok.ensures.prints;
+        prints = subst (λ turns. PrintsSeveral g.R.Registry g.J.Journal c.args.registry (c.args.first ∷ c.args.others.items) c.args.base turns c.args.settles (g.W.Write.contents c.args.out.now) (g.W.Write.contents c.print_several.new.out) c.in-Ok.printed)
+            same c.in-Ok.ensures.prints;
         status_is = search rules;
       };
     }
