@@ -1,5 +1,6 @@
 -- Several connectors that run over one provider, each with its journal, its book and its messages.
-use Rattle.std.specs.Prelude.{◌≡◌, ◌≢◌, ◌<◌, ◌+◌, ◌-◌, ◌^◌, ℕ, zero, suc, List, [], ◌∷◌, ◌++◌, map, length, min, slice_set, Some}
+use Rattle.std.specs.Prelude.{◌≡◌, ◌≢◌, ◌<◌, ◌+◌, ◌-◌, ◌^◌, ℕ, zero, suc, List, [], ◌∷◌, ◌++◌, Some}
+use Rattle.std.specs.Prelude.{map, length, min, slice_set}
 use Rattle.std.specs.FinMap as fin
 use Rattle.std.specs.List.{AllByRecursion, slice_get}
 use Rattle.provider_core.specs.declared.registry.Registry.{Ghosts as Registries}
@@ -9,7 +10,8 @@ use Rattle.world_model.specs.Others.{HeadlineAmong, OfOurs, SafeAmong}
 use Rattle.world_model.specs.Reports.{Report, report}
 use Rattle.world_model.specs.Safe.{Onward}
 use Rattle.world_model.specs.Room.{HasRoom}
-use Rattle.world_model.specs.Several.{Shared, nobody, world_at, with_world, Turn, On, happens_at, run_several, side_after}
+use Rattle.world_model.specs.Several.{Shared, nobody, world_at, with_world, Turn, On, happens_at, run_several}
+use Rattle.world_model.specs.Several.{side_after}
 use Rattle.world_model.specs.Several.{NoneShared, EachItsOwn}
 use Rattle.world_model.specs.World.{World, Message, Event}
 use Rattle.world_sim.specs.Amid.{FailsOurs}
@@ -158,7 +160,8 @@ pub record StartsSeveral {R J : Type 0} (g : Registries R) (h : Journals J) (reg
       → (ours : ℕ → Names) → NoneShared ours → AreAmong g h ours r nobody
 
 -- one connector more, over this journal, after the others
-pub record Adds {R J : Type 0} (g : Registries R) (h : Journals J) (old new : SharedWorld R J) (journal : J) : Type 0 where
+pub record Adds {R J : Type 0} (g : Registries R) (h : Journals J) (old new : SharedWorld R J) (journal : J)
+    : Type 0 where
   pub seat : Seat J
   pub first : new.first ≡ old.first
   pub added : new.others.items ≡ old.others.items ++ seat ∷ []

@@ -14,7 +14,8 @@ use Rattle.world_sim.specs.Lines.{report_text}
 use Rattle.world_sim.specs.Printing.{ShowsAll, settled_lines, view_lines}
 use Rattle.world_sim.specs.Events.{event_of}
 use Rattle.world_sim.specs.Several.{FailsAtPlace, FailsAtTurn, FailsToStart, HappensAt, StartsSeveral, StopsAfterTurns}
-use Rattle.world_sim.specs.Several.{AreAmong, AreSettling, AreSound, IsDoneAt, IsNew, IsRunSeveral, SettlesEach, seats_of, turns_of}
+use Rattle.world_sim.specs.Several.{AreAmong, AreSettling, AreSound, IsDoneAt, IsNew, IsRunSeveral, SettlesEach}
+use Rattle.world_sim.specs.Several.{seats_of, turns_of}
 use Rattle.world_sim.specs.Views.{view}
 use Rattle.world_sim.specs.declared.following.TellingFault.{TellingFault}
 use Rattle.world_sim.specs.declared.following.TellingFault.TheVariants.{World, Untold}
@@ -95,8 +96,8 @@ pub record IsOfSeveral {R J : Type 0} (g : Registries R) (h : Journals J) (ours 
 
 -- What was printed: a line for each turn with its connector's number and its report, the count if settling was asked
 -- for, and a line for each record of each connector. If all stores were empty, the provider's open, and all returned
--- what was committed, all this is the model's, whichever records are whose, if no two connectors have a record in common
--- and each source offers rows of its own records alone
+-- what was committed, all this is the model's, whichever records are whose, if no two connectors have a record in
+-- common and each source offers rows of its own records alone
 pub record PrintsSeveral {R J : Type 0} (g : Registries R) (h : Journals J) (registry : R) (journals : List J)
     (base : List ℕ) (turns : List Turn) (asked : Bool) (before after : Option (List ℕ)) (printed : PrintedSeveral R J)
     : Type 0 where
@@ -108,7 +109,8 @@ pub record PrintsSeveral {R J : Type 0} (g : Registries R) (h : Journals J) (reg
       ++ (settled_lines count ++ views_lines (map (λ views. views.items) printed.views.items)))
   pub so : g.is_faithful registry → g.rows registry ≡ [] → AllByRecursion (IsNew h) journals
       → AreSound g h printed.world → (ours : ℕ → Names) → NoneShared ours → EachItsOwn ours (turns_of turns)
-      → IsOfSeveral g h ours base turns printed.reports.items (length journals) count (map (λ views. views.items) printed.views.items)
+      → IsOfSeveral g h ours base turns printed.reports.items (length journals) count
+      (map (λ views. views.items) printed.views.items)
 
 -- ---- why a run ended early
 
