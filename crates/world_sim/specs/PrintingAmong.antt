@@ -91,8 +91,8 @@ abbrev pub ReachesAmong : World → Option Count → World → Type 0
 ReachesAmong w None v = v ≡ w
 ReachesAmong w (Some count) v = IsSettlingAmong w count.exchanges v
 
--- These are the views of our records, and of the others that others wrote by rows, in the world after the model's run of
--- the acts, settled if that was asked for
+-- These are the views of our records, and of the others that others wrote by rows, in the world after the model's run
+-- of the acts, settled if that was asked for
 pub record IsOfAmong (all : List Act) (count : Option Count) (views others : List View) : Type 0 where
   pub last : World
   pub reaches : ReachesAmong (run_among empty (acts_of empty all)) count last
@@ -100,8 +100,8 @@ pub record IsOfAmong (all : List Act) (count : Option Count) (views others : Lis
   pub of_others : AreOfOthers last all others
 
 -- What was printed: a line for each act with its report, the count if settling was asked for, a line for each record of
--- ours, and one for each other record that others wrote by a row. `ran` is the world after the acts: if both stores were
--- empty, the provider's open, and both returned what was committed, the promise among others holds of it, and the
+-- ours, and one for each other record that others wrote by a row. `ran` is the world after the acts: if both stores
+-- were empty, the provider's open, and both returned what was committed, the promise among others holds of it, and the
 -- reports are those of the model's run (`promise`). If others left our records alone, whichever these are, the run to
 -- convergence and the views are the model's too (`so`)
 pub record PrintsAmong {R J W : Type 0} (g : Registries R) (h : Journals J) (contents : W → Option (List ℕ))
