@@ -177,21 +177,43 @@ where
         Err(error)
     }
 
-    /// Reads what has come of a new connection. If that isn't a whole request, the connection is held. It
-    /// fails if another one had to be dropped.
-    fn look_at(&mut self, stream: L::Stream) -> io::Result<Look<L::Stream>> {
+    /// A new connection, of which nothing was read yet.
+    fn held(&self, stream: L::Stream) -> io::Result<Held<L::Stream>> {
         stream.set_nonblocking(true)?;
         let deadline = Deadline::after(self.clock, self.limit)?;
         let now = Instant::now(self.clock)?;
-        let mut held = Held::new(self.alloc, stream, deadline, now);
-        if held.is_ready(self.alloc, now) {
-            self.turns_of_new = 0;
-            return Ok(Look::Ready(held));
-        }
+        Ok(Held::new(self.alloc, stream, deadline, now))
+    }
+
+    /// Holds a connection until it can be served. It fails if another one had to be dropped.
+    fn hold(&mut self, held: Held<L::Stream>, now: Instant) -> io::Result<Look<L::Stream>> {
         if self.waiting.hold(held, now) {
             Ok(Look::Moves)
         } else {
             Err(io::Error::from(ErrorKind::TimedOut))
+        }
+    }
+
+    /// Reads what has come of a new connection. If that isn't a whole request, the connection is held. It
+    /// fails if another one had to be dropped.
+    fn look_at(&mut self, stream: L::Stream) -> io::Result<Look<L::Stream>> {
+        let mut held = self.held(stream)?;
+        let now = held.accepted;
+        if held.is_ready(self.alloc, now) {
+            self.turns_of_new = 0;
+            return Ok(Look::Ready(held));
+        }
+        self.hold(held, now)
+    }
+
+    /// Accepts a new connection, if there is one, and holds it unread.
+    fn hold_next(&mut self, now: Instant) -> io::Result<Look<L::Stream>> {
+        match self.next_stream(now, false)? {
+            Some(stream) => {
+                let held = self.held(stream)?;
+                self.hold(held, now)
+            }
+            None => Ok(Look::Waits),
         }
     }
 
@@ -200,19 +222,22 @@ where
     fn attend(&mut self, now: Instant) {
         self.endings.go_on(now);
         for _ in 0..MOST_IN_A_ROW {
-            if !self.attend_once() {
+            if !self.attend_once(now) {
                 return;
             }
         }
     }
 
-    /// Looks at some connections during a search, and keeps the first that can be served. It returns whether there
-    /// may be more to do.
-    fn attend_once(&mut self) -> bool {
-        if self.ready.len() >= MOST_READY || self.ready.reserve(1).is_err() {
-            return false;
-        }
-        match self.look(false) {
+    /// Looks at some connections during a search, and keeps the first that can be served. If there is no place for
+    /// it, new connections are only held. It returns whether there may be more to do.
+    fn attend_once(&mut self, now: Instant) -> bool {
+        let is_full = self.ready.len() >= MOST_READY || self.ready.reserve(1).is_err();
+        let found = if is_full {
+            self.hold_next(now)
+        } else {
+            self.look(false)
+        };
+        match found {
             Ok(Look::Ready(held)) => self.ready.push_back(held).is_ok(),
             Ok(Look::Moves) => true,
             Ok(Look::Continues | Look::Waits) => false,
