@@ -92,6 +92,24 @@ module _ {S : Type 0} (remaining : S → Option (List ℕ)) (now : Instant) wher
         omega (arith, none, before.counted);
   }
 
+pub come_now : (before after : Received) (arrival : Arrival) → arrival ≡ Bytes → HasCome before after arrival → ∥ Waits after.bytes.items ∥₁
+come_now before after arrival is come = subst (HasCome before after) is come
+
+none_came : (before after : Received) (arrival : Arrival) → arrival ≡ Nothing → HasCome before after arrival → after.bytes.items ≡ before.bytes.items
+none_came before after arrival is come = subst (HasCome before after) is come
+
+-- after more of the same bytes the same was found
+come_since : (first before after : Received) (arrival : Arrival) → HasCome first before arrival
+    → after.bytes.items ≡ before.bytes.items → HasCome first after arrival
+come_since first before after Bytes come same = subst (λ (bytes : List ℕ). ∥ Waits bytes ∥₁) (sym same) come
+come_since first before after Nothing come same = same ∙ come
+come_since first before after Last come same = tt
+
+-- after a read that gave nothing
+pub come_by_then : (first before after : Received) (arrival last : Arrival) → HasCome first before arrival → last ≡ Nothing
+    → HasCome before after last → HasCome first after arrival
+come_by_then first before after arrival last come is none = come_since first before after arrival come (none_came before after last is none)
+
 -- what didn't end the looks waits on
 pub waits_on : (old mid new : Received) (arrival : Arrival) → HasCome old mid arrival → ((arrival ≡ Last) → ⊥)
     → new.bytes.items ≡ mid.bytes.items → (new.bytes.items ≡ old.bytes.items) ⊎ ∥ Waits new.bytes.items ∥₁

@@ -10,8 +10,6 @@ use Rattle.std.specs.declared.time.Instant.{Instant}
 use Rattle.connection.specs.declared.held.Held.{Held}
 use Rattle.connection.specs.declared.held.Arrival.{Arrival}
 use Rattle.connection.specs.declared.held.Arrival.TheVariants.{Bytes, Nothing, Last}
-use Rattle.connection.specs.declared.held.Taken.{Taken}
-use Rattle.connection.specs.declared.held.Taken.TheVariants as reads
 use Rattle.connection.specs.declared.received.Received.{Received}
 use Rattle.connection.specs.declared.waiting.Waiting.{Waiting}
 use Rattle.connection.specs.Arriving.{Waits}
@@ -25,11 +23,6 @@ abbrev pub HasCome : (old new : Received) → Arrival → Type 0
 HasCome old new Bytes = ∥ Waits new.bytes.items ∥₁
 HasCome old new Nothing = new.bytes.items ≡ old.bytes.items
 HasCome old new Last = ⊤
-
--- a read that gave nothing adds nothing
-abbrev pub HasTaken : (old new : Received) → Taken → Type 0
-HasTaken old new reads.Nothing = new.bytes.items ≡ old.bytes.items
-HasTaken old new _ = ⊤
 
 -- A connection isn't served after a look: it gave no bytes, or its request isn't whole. The next look is set
 pub record IsPutBack {S : Type 0} (now : Instant) (old new : Held S) : Type 0 where

@@ -1,8 +1,7 @@
 //! Connections whose requests aren't whole yet.
 ghost use Rattle.std.specs.Prelude.{◌≡◌, []};
 ghost use Rattle.std.specs.Io.KnownBytes.{Keeps, prepend_known};
-ghost use Rattle.connection.specs.Holding.{HasCome, HasTaken, Looks, is_time};
-ghost use Rattle.connection.specs.declared.received.Received.{Received};
+ghost use Rattle.connection.specs.Holding.{HasCome, Looks, is_time};
 
 use crate::deadline::Deadline;
 use crate::pace::next_look;
@@ -41,17 +40,6 @@ pub(crate) enum Arrival {
     Nothing,
     /// The request is whole or refused, or no more comes: the stream has ended or failed, there is no room, or out
     /// of memory.
-    Last,
-}
-
-/// What a read gave.
-#[derive(Clone, Copy)]
-pub(crate) enum Taken {
-    /// As many bytes as there was room for: more may be there.
-    Filled,
-    Bytes,
-    Nothing,
-    /// No more comes: the stream has ended or failed, there is no room, or out of memory.
     Last,
 }
 
@@ -96,7 +84,7 @@ impl<S: Read + Drop> Held<S> {
         false
     }
 
-    /// Takes what has come, up to a whole request. It is judged once it was all taken.
+    /// Takes what has come, up to a whole request.
     fn receive(&mut self, alloc: Global) -> Arrival
         ensures bytes { Keeps (prepend_known self.old.received.bytes.items (S.remaining self.old.stream))
             (prepend_known self.new.received.bytes.items (S.remaining self.new.stream)) }
@@ -104,64 +92,47 @@ impl<S: Read + Drop> Held<S> {
         ensures accepted { self.new.accepted ≡ self.old.accepted }
         ensures come { HasCome self.old.received self.new.received result }
     {
-        let mut has_come = false;
+        let mut arrival = Arrival::Nothing;
         for _ in 0..MOST_READS {
-            match self.read_once() {
-                Taken::Filled => has_come = true,
-                Taken::Bytes => return self.judge(alloc),
-                Taken::Nothing if has_come => return self.judge(alloc),
-                Taken::Nothing => return Arrival::Nothing,
-                Taken::Last => return Arrival::Last,
+            match self.read_once(alloc) {
+                Arrival::Bytes => arrival = Arrival::Bytes,
+                Arrival::Nothing => return arrival,
+                Arrival::Last => return Arrival::Last,
             }
         }
-        self.judge(alloc)
+        arrival
     }
 
     /// Takes what one read gives.
-    fn read_once(&mut self) -> Taken
+    fn read_once(&mut self, alloc: Global) -> Arrival
         ensures bytes { Keeps (prepend_known self.old.received.bytes.items (S.remaining self.old.stream))
             (prepend_known self.new.received.bytes.items (S.remaining self.new.stream)) }
         ensures deadline { self.new.deadline ≡ self.old.deadline }
         ensures accepted { self.new.accepted ≡ self.old.accepted }
-        ensures taken { HasTaken self.old.received self.new.received result }
+        ensures come { HasCome self.old.received self.new.received result }
     {
         let mut buffer = [0; READ_LIMIT];
         let room = MOST_BYTES
             .saturating_sub(self.received.bytes.len())
             .min(READ_LIMIT);
         if self.received.reserve(room).is_err() {
-            return Taken::Last;
+            return Arrival::Last;
         }
         match self.stream.read(&mut buffer[..room]) {
-            Ok(0) => Taken::Last,
+            Ok(0) => Arrival::Last,
             Ok(count) => {
                 let kept = self.received.add(&buffer[..count]);
                 prove!(kept.is_ok());
-                if count == room {
-                    Taken::Filled
+                if self.received.is_ready(alloc) {
+                    Arrival::Last
                 } else {
-                    Taken::Bytes
+                    Arrival::Bytes
                 }
             }
             Err(error) => match error.kind() {
-                ErrorKind::WouldBlock | ErrorKind::Interrupted => Taken::Nothing,
-                _ => Taken::Last,
+                ErrorKind::WouldBlock | ErrorKind::Interrupted => Arrival::Nothing,
+                _ => Arrival::Last,
             },
-        }
-    }
-
-    /// Whether what has come decides what is answered.
-    fn judge(&mut self, alloc: Global) -> Arrival
-        ensures come { (earlier : Received) → HasCome earlier self.new.received result }
-        ensures bytes { self.new.received.bytes ≡ self.old.received.bytes }
-        ensures stream { self.new.stream ≡ self.old.stream }
-        ensures deadline { self.new.deadline ≡ self.old.deadline }
-        ensures accepted { self.new.accepted ≡ self.old.accepted }
-    {
-        if self.received.is_ready(alloc) {
-            Arrival::Last
-        } else {
-            Arrival::Bytes
         }
     }
 }
