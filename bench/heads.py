@@ -6,8 +6,8 @@
 Heads of 200 bytes to 16 KB are answered under valgrind, which counts the instructions of each run,
 so that no other work on the machine is in the figures. The cost of a byte at some size is what a
 head of that size takes more than one of 200 bytes, for each byte that it is longer: the start of
-the process is in neither. It ends with status 1 where a byte costs over twice as much at 16 KB as
-at 1 KB, where a malformed head of 15,206 bytes costs over ten times a whole one of 16,200, or where
+the process is in neither. A head that fits the short array for reading ahead costs less. It ends with
+status 1 where a byte costs over twice as much at 16 KB as at 4 KB, where a malformed head of 15,206 bytes costs over ten times a whole one of 16,200, or where
 an answer isn't the one wanted.
 """
 import sys
@@ -45,7 +45,7 @@ def main():
         print(f"{size:6,} bytes: {cost:5.2f} instructions a byte")
     malformed = answered(head(16_200)[:15_205] + b"\0" + b"a" * 994, 400)
     print(f"16,200 bytes: {whole:,} instructions; malformed at byte 15,206: {malformed:,}")
-    if found[16_200] > 2 * found[1_024] or malformed > 10 * whole:
+    if found[16_200] > 2 * found[4_096] or malformed > 10 * whole:
         sys.exit("heads aren't read in linear work")
 
 
