@@ -7,10 +7,10 @@ from databases import make_store, user_resource, user_text
 from support import ProgramTest, Provider, read_all, resource_id
 from test_slow_clients import LIST, narrow_connection
 
-# So many rows, and so many parts of a filter, that a search takes half a second and more
+# So many rows, and so many parts of a filter, that a search takes a quarter of a second and more
 ROWS, PARTS = 100_000, 60
 # More clients than the system's queue and those that are read meanwhile, 128 and 64; the seconds between two of them
-CLIENTS, PACE = 200, 0.0005
+CLIENTS, PACE = 200, 0.0002
 FIND_FIRST = f"GET /v2/Users/{resource_id(1)} HTTP/1.1\r\nHost: h\r\n\r\n".encode()
 FILTER = "%20or%20".join(f"userName%20co%20%22nobody-{part}%22" for part in range(PARTS))
 SEARCH = f"GET /v2/Users?filter={FILTER} HTTP/1.1\r\nHost: h\r\n\r\n".encode()
