@@ -4,7 +4,7 @@ No contract can say when memory, a disk or a socket fails, so the prover accepts
 though nothing failed. This test reads the sources instead. A fault comes
 
 - by `?` from the call that had it;
-- in an arm whose pattern is another type's fault of that sort (`JournalFault::Memory => ChangeFault::Memory`);
+- in an arm whose pattern is another type's fault of that sort (`StoreFault::Memory => ChangeFault::Memory`);
 - out of memory also by a `From` of the allocator's errors;
 - at a place of made_up_faults.txt, which has a reason for each.
 
@@ -23,6 +23,9 @@ LIST = TESTS / "made_up_faults.txt"
 CRATES = TESTS.parent / "crates"
 # The end of the names of crates of tests, whose faults are expected values, and those of stores that fail on purpose
 SCENARIOS = "scenarios"
+
+# What a `From` of the allocator's errors gives: a variant of a known name, or one that holds such a fault
+KNOWN_MEMORY = re.compile(r"^(?:\w+::\w+\()?\w+::(?:Memory|OutOfMemory)\)?$")
 
 # How the code writes each sort of fault
 SORTS = {
@@ -63,7 +66,7 @@ source_of = functools.cache(Source)
 
 
 class Sort:
-    """A sort of fault, and the functions of a crate that return nothing else."""
+    """A sort of fault, and functions that return nothing else."""
 
     def __init__(self, name, makers=()):
         self.is_memory, self.fault = name == "memory", SORTS[name]
@@ -116,11 +119,27 @@ def made_by_hand(source, sort):
 
 
 def makers_in(source, sort):
-    """The functions of a file that do nothing but make a fault."""
+    """The functions of a file that do nothing but make a fault, each with whether other crates can call it."""
     for start in made_by_hand(source, sort):
         block = source.block_at(start)
         if block and block.is_body() and not re.search(r"[;{.?]", source.code[block.start : block.end]):
-            yield source.function_at(start).rpartition("::")[2]
+            yield source.function_at(start).rpartition("::")[2], block.head.startswith("pub fn")
+
+
+@functools.cache
+def public_makers(name):
+    """The functions of all crates that make a fault of a sort and that others can call, each after its crate."""
+    return {
+        (crate, it)
+        for crate, files in crates().items()
+        for text in files.values() if ANY.search(text)
+        for it, is_public in makers_in(source_of(text), Sort(name)) if is_public
+    }
+
+
+def imported(text, name):
+    """The functions of other crates that make a fault of a sort and that a file names by their crate."""
+    return {it for home, it in public_makers(name) if re.search(rf"\b{home}::(?:\*|(?:{{[^}}]*\b)?{it}\b)", text)}
 
 
 def place(file, source, start):
@@ -131,12 +150,15 @@ def place(file, source, start):
 
 def places_in(files):
     """The places where the files of a crate, given with their texts, make faults by hand; each with its count."""
-    sources = {file: source_of(text) for file, text in files.items() if ANY.search(text)}
+    imports = {file: {name: imported(text, name) for name in SORTS} for file, text in files.items()}
+    sources = {
+        file: source_of(text) for file, text in files.items() if ANY.search(text) or any(imports[file].values())
+    }
     places = collections.Counter()
     for name in SORTS:
-        makers = {it for source in sources.values() for it in makers_in(source, Sort(name))}
-        sort = Sort(name, sorted(makers))
+        makers = {it for source in sources.values() for it, _ in makers_in(source, Sort(name))}
         for file, source in sources.items():
+            sort = Sort(name, sorted(makers | imports[file][name]))
             places.update(place(file, source, start) for start in made_by_hand(source, sort))
     return places
 
@@ -181,7 +203,7 @@ class MadeUpFaults(unittest.TestCase):
                 home = block.parent and block.parent.within("impl")
                 if home and OF_ALLOCATOR.search(home.head) and block.head.startswith("fn from("):
                     body = source.code[block.start : block.end].strip()
-                    self.assertRegex(body, r"^\w+::(?:Memory|OutOfMemory)$", f"{file}: a name for {home.head}")
+                    self.assertRegex(body, KNOWN_MEMORY, f"{file}: a name for {home.head}")
                     count += 1
         self.assertGreater(count, 0)
 
@@ -195,7 +217,7 @@ WRONG = [
     ("connector_core/src/learning.rt", "judge", None, "return Err(LearnFault::Memory);"),
     ("scim_client/src/exchange.rt", "ScimService::exchange", None,
      "if let Request::Replace { .. } = request { return Err(ExchangeFault::NoAnswer(AnswerFault::OutOfMemory)); }"),
-    ("source_csv/src/files.rt", "rows_left", "for _ in 0..u64::MAX {", "for _ in 0..150_000 {"),
+    ("source_csv/src/files.rt", "rest_of", "for _ in 0..u64::MAX {", "for _ in 0..150_000 {"),
     ("commands/src/images.rt", "print_images", "for _ in 0..u64::MAX {", "for _ in 0..150_000 {"),
     ("world_sim/src/schedules.rt", "read_schedule", None, "if text.len() > 4_096 { return Err(AllocError)?; }"),
     ("provisioning/src/exchanging.rt", "exchange_on", None,
@@ -207,7 +229,7 @@ WRONG = [
     ("mapping/src/lines.rt", "WriteFault::from", "if error.kind() == ErrorKind::OutOfMemory {",
      "if error.kind() != ErrorKind::BrokenPipe {"),
     ("world_sim/src/schedules.rt", "lines_of", None, "let _: Vec<u8> = Vec::with_capacity(alloc, usize::MAX)?;"),
-    ("provider_core/src/provider.rt", "ProviderFault::from", "RegistryFault::Memory => ProviderFault::Memory,",
+    ("provider_core/src/provider.rt", "ProviderFault::from", "StoreFault::Memory => ProviderFault::Memory,",
      "_ => ProviderFault::Memory,"),
 ]
 

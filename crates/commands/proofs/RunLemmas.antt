@@ -11,7 +11,7 @@ use Rattle.provider_core.specs.declared.registry.Registry.{Ghosts as Registries}
 use Rattle.connection.specs.Requests.{FollowRequests}
 use Rattle.connection.specs.Turns.{ServesTurns}
 use Rattle.connection.specs.declared.serving.ConnectionFault.{ConnectionFault}
-use Rattle.storage.specs.Serving.{ServesFrom}
+use Rattle.commands.specs.Stored.{ServesFrom}
 use Rattle.commands.specs.Listening.{ServesEmpty, ServesRows}
 use Rattle.commands.specs.Statuses.{outcome_status}
 use Rattle.commands.specs.Planning.{IsPushed, PushesAs}

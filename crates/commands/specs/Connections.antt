@@ -11,7 +11,7 @@ use Rattle.http_text.specs.Counts.{Reading, Writing}
 use Rattle.http_text.specs.Message.{Message}
 use Rattle.connection.specs.declared.answering.Served.{Served}
 use Rattle.connection.specs.Serving.{HasRead, Serves}
-use Rattle.storage.specs.Serving.{AnswersFrom}
+use Rattle.commands.specs.Stored.{AnswersFrom}
 use Rattle.commands.specs.Words.{wanted_base}
 use Rattle.commands.specs.declared.status.CommandFault.{CommandFault}
 use Rattle.commands.specs.declared.status.CommandFault.TheVariants as fault

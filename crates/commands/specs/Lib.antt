@@ -7,7 +7,9 @@ pub mod Words
 pub mod Simulating
 pub mod Running
 pub mod Looping
+pub mod Loops
 pub mod Listening
+pub mod Stored
 pub mod Simulations
 pub mod SimulationsAmong
 pub mod Manners

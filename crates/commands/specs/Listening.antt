@@ -8,7 +8,7 @@ use Rattle.provider_core.specs.declared.registry.Registry.{Ghosts}
 use Rattle.connection.specs.Requests.{FollowRequests}
 use Rattle.connection.specs.Turns.{ServesTurns}
 use Rattle.connection.specs.declared.serving.ConnectionFault.{ConnectionFault}
-use Rattle.storage.specs.Serving.{ServesFrom}
+use Rattle.commands.specs.Stored.{ServesFrom}
 use Rattle.storage.specs.StoreOpened.{IsOpenedAt}
 use Rattle.scim_resource.specs.Rows.{StoredRecord}
 use denote.Ref.{Bor}

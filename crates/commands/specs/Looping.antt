@@ -11,14 +11,14 @@ use Rattle.journal_core.specs.Entries.{EntryMap}
 use Rattle.journal_core.specs.declared.journals.Journal.{Ghosts as Journals}
 use Rattle.connector_core.specs.State.{State}
 use Rattle.storage.specs.StoreOpened.{IsOpenedAt}
-use Rattle.provisioning.specs.Carrying.{Loops}
 use Rattle.provisioning.specs.declared.carrying.Outcome.{Outcome}
-use Rattle.provisioning.specs.declared.faults.LoopFault.{LoopFault}
 use Rattle.provisioning.specs.declared.sources.Sources.{Sources}
 use Rattle.commands.specs.Causes.{concluded}
+use Rattle.commands.specs.Loops.{Loops}
 use Rattle.commands.specs.Running.{IsJob, ReadsFiles, RunsOver}
 use Rattle.commands.specs.Statuses.{run_status, store_fault}
 use Rattle.commands.specs.declared.jobs.Job.{Job}
+use Rattle.commands.specs.declared.looping.faults.LoopFault.{LoopFault}
 use Rattle.commands.specs.declared.status.CommandFault.{CommandFault}
 use Rattle.commands.specs.declared.status.Status.{Status}
 

@@ -7,7 +7,7 @@ use Rattle.journal_core.specs.Calls.{Reads}
 use Rattle.journal_core.specs.Entries.{EntryMap}
 use Rattle.journal_core.specs.Stores.{CountsFault}
 use Rattle.journal_core.specs.declared.journals.Journal.{Ghosts as Journals}
-use Rattle.journal_core.specs.declared.journals.JournalFault.{JournalFault}
+use Rattle.scim_key.specs.declared.stores.StoreFault.{StoreFault}
 use Rattle.connector_core.specs.State.{IsOpened as IsBookOf, State}
 use Rattle.storage.specs.JournalOpened.{IsOpenedAt}
 use Rattle.provisioning.specs.DryRuns.{IsDry, Shows, entries_of}
@@ -42,7 +42,7 @@ planned_status most (Err why) = Err (fault.Run why)
 -- a journal was only read, and closed
 abbrev pub IsReadFrom : {J L : Type 0} → Journals J → (is_closed : J → L → Type 0) → (first : J) → DryJournal → Type 0
 IsReadFrom {J} {L} g is_closed first dry =
-    (last : J) × (left : L) × Reads {T = DryJournal} {F = JournalFault} g CountsFault first last (Ok dry)
+    (last : J) × (left : L) × Reads {T = DryJournal} {F = StoreFault} g CountsFault first last (Ok dry)
     × (g.is_faithful last → Shows (g.entries first) dry) × is_closed last left
 
 -- there is no journal, and no entry

@@ -41,8 +41,8 @@ use Rattle.storage.specs.declared.show_fault.ShowFault.{ShowFault}
 use Rattle.storage.specs.declared.show_fault.ShowFault.TheVariants as show
 use Rattle.provisioning.specs.Carrying.{is_done}
 use Rattle.provisioning.specs.declared.carrying.Outcome.{Outcome}
-use Rattle.provisioning.specs.declared.faults.LoopFault.{LoopFault}
-use Rattle.provisioning.specs.declared.faults.LoopFault.TheVariants as looping
+use Rattle.commands.specs.declared.looping.faults.LoopFault.{LoopFault}
+use Rattle.commands.specs.declared.looping.faults.LoopFault.TheVariants as looping
 use Rattle.provisioning.specs.declared.faults.RunFault.{RunFault}
 use Rattle.commands.specs.declared.status.CommandFault.{CommandFault}
 use Rattle.commands.specs.declared.status.CommandFault.TheVariants as fault

@@ -5,6 +5,7 @@ ghost use Rattle.commands.specs.Connections.{Answers, AnswersNamed, AnswersOne, 
 ghost use Rattle.commands.specs.Statuses.{served_status};
 
 use crate::status::{CommandFault, Status};
+use crate::stored::serve_one;
 use crate::words::base;
 use clap::ArgMatches;
 use connection::{Served, answered, serve};
@@ -15,7 +16,7 @@ use std::alloc::Global;
 use std::io;
 use std::io::{Read, Write};
 use std::rt::Runtime;
-use storage::{RowStorage, serve_one};
+use storage::RowStorage;
 
 /// Answers one request from standard input, over the rows of a file, or over an empty provider in memory.
 pub fn answer<R: Runtime + AllocGlobal, K: RowStorage>(

@@ -3,9 +3,10 @@ ghost use Rattle.std.specs.Prelude.{◌≡◌};
 ghost use Rattle.std.specs.List.{list_all};
 ghost use Rattle.commands.specs.Statuses.{carried_status, is_confirmed, is_taken, outcome_status, pushed_status, run_status, several_status, shown_status, simulated_status};
 
+use crate::looping::LoopFault;
 use crate::status::{CommandFault, Status};
 use connection::ConnectionFault;
-use provisioning::{LoopFault, Outcome, RunFault};
+use provisioning::{Outcome, RunFault};
 use storage::ShowFault;
 use world_sim::{Report, TurnReport, View};
 

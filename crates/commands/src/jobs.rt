@@ -1,6 +1,6 @@
 //! What `push` and `loop` carry.
 ghost use Rattle.clap.specs.Matches.{found_of};
-ghost use Rattle.commands.specs.Running.{GivesJob, ReadsJob};
+ghost use Rattle.commands.specs.Running.{GivesJob, ReadsFiles, ReadsJob};
 
 use crate::status::CommandFault;
 use crate::words::{base, groups, users};
@@ -9,6 +9,7 @@ use provisioning::{ReadFiles, Sources, read_sources};
 use scim_client::ScimService;
 use std::alloc::Global;
 use std::io::Eprint;
+use std::rt::Runtime;
 
 /// The files of records, and the service that the records are carried to.
 #[derive(Drop)]
@@ -35,5 +36,15 @@ impl<'a> Job<'a> {
         ensures { ReadsJob R.gives rt.now self.now result }
     {
         Ok(read_sources(rt, self.users, self.groups)?)
+    }
+
+    /// Reads the records of the system's files, of which no contract says what they have.
+    pub(crate) fn read_files<R: Runtime + AllocGlobal>(
+        &self,
+        rt: &R,
+    ) -> Result<Sources, CommandFault>
+        ensures { ReadsFiles self.now result }
+    {
+        self.read(rt)
     }
 }

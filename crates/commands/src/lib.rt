@@ -20,6 +20,7 @@ pub mod simulating;
 mod simulating_among;
 mod simulation;
 mod status;
+mod stored;
 pub mod words;
 
 pub use answering::{answer, answer_one, answer_stored};
@@ -28,7 +29,7 @@ pub use endings::{
 };
 pub use images::{map, print_images};
 pub use jobs::Job;
-pub use looping::carry;
+pub use looping::{LoopFault, OWN_ADDRESS, carry};
 pub use manners::{Delivery, MOST_LEAVERS, Manner};
 pub use output::{NotedWriter, StandardOutput, standard_output};
 pub use pushing::{push, push_over};

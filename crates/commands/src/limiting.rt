@@ -7,7 +7,6 @@ use crate::jobs::Job;
 use crate::manners::Delivery;
 use crate::pushing::{close, push_known};
 use crate::status::{CommandFault, Status};
-use connection::TimedHandle;
 use connector_core::Connector;
 use journal_core::Journal;
 use provisioning::{DryJournal, RunFault, Sources, count_leavers};
@@ -15,6 +14,7 @@ use std::io::{Eprint, Read, Write};
 use std::net::Net;
 use std::rt::Runtime;
 use storage::{EntryStorage, StoredEntries};
+use timed_streams::TimedHandle;
 
 /// Opens the journal and reads the files. If these would switch off more than `most` users, it reports that and does
 /// nothing else; otherwise it carries their records. Then it closes the journal.
@@ -56,7 +56,7 @@ fn approved<R: Runtime + AllocGlobal, J: Journal>(
         journal.old journal.new) }
     ensures reads { Reads J.Journal NoFewer journal.old journal.new result }
 {
-    let sources = job.read(rt)?;
+    let sources = job.read_files(rt)?;
     match count_leavers(rt.alloc(), journal, &sources) {
         Ok(count) if tell_excess(rt, count, Some(most)) => Ok(None),
         Ok(_count) => Ok(Some(sources)),

@@ -5,22 +5,32 @@ ghost use Rattle.storage.specs.JournalOpened.{IsOpenedAt};
 ghost use Rattle.commands.specs.Looping.{HasNone, IsDropped, IsEmpty, IsLooped, LoopsAt, LoopsFrom, LoopsOver, LoopsTo, LoopsWith, RunsWith};
 ghost use Rattle.commands.specs.Running.{GivesConnector};
 
+mod faults;
+mod own;
+mod reports;
+mod runs;
+mod views;
+
 use crate::endings::run_status;
 use crate::jobs::Job;
 use crate::output::{NotedWriter, standard_output};
 use crate::pushing::{close, open_connector};
 use crate::status::{CommandFault, Status};
 use clap::ArgMatches;
-use connection::{Sockets, TimedHandle};
+use connection::Sockets;
 use connector_core::Connector;
+pub use faults::LoopFault;
 use journal_core::{Journal, MemoryJournal};
+pub use own::OwnReader;
 use provider_core::{MemoryRegistry, Provider, Registry};
-use provisioning::{OwnReader, RunFault, Sources, run_loop};
+use provisioning::{RunFault, Sources};
+pub use runs::{OWN_ADDRESS, run_loop};
 use std::alloc::Global;
 use std::io::{Read, Write};
 use std::net::Net;
 use std::rt::Runtime;
 use storage::{EntryStorage, InMemory, RowStorage, StoredRows};
+use timed_streams::TimedHandle;
 
 /// Carries the records of files from a journal to a store, each in a file or in memory.
 pub fn carry<'a, R: Runtime + Net + AllocGlobal, K: RowStorage + 'a, J: EntryStorage>(
@@ -181,7 +191,7 @@ fn carry_over<'a, R: Runtime + Net + AllocGlobal, S: StoredRows + 'a, J: Journal
         ⟦<TimedHandle<'a, R::Stream, R> as Write>⟧.contents J.Journal job.now
         (0 < S.faults provider.new) connector.old connector.new result }
 {
-    let sources = job.read(rt)?;
+    let sources = job.read_files(rt)?;
     let mut out = standard_output(rt)?;
     carry_to(rt, provider, connector, job, &sources, &mut out)
 }

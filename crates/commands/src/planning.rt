@@ -7,8 +7,9 @@ use crate::limiting::tell_excess;
 use crate::output::{NotedWriter, standard_output};
 use crate::status::{CommandFault, Status};
 use connector_core::Connector;
-use journal_core::{Journal, JournalFault};
+use journal_core::Journal;
 use provisioning::{DryJournal, Plan, RowReports, RunFault, Sources, plan_push};
+use scim_key::StoreFault;
 use std::alloc::Global;
 use std::io::{Eprint, Write};
 use std::rt::Runtime;
@@ -56,10 +57,10 @@ fn look_into<E: StoredEntries>(mut entries: E) -> Result<DryJournal, CommandFaul
 }
 
 /// The fault of a journal that can't be read.
-fn unread(fault: JournalFault) -> CommandFault {
+fn unread(fault: StoreFault) -> CommandFault {
     match fault {
-        JournalFault::Store => CommandFault::Run(RunFault::Journal),
-        JournalFault::Memory => CommandFault::Run(RunFault::Memory),
+        StoreFault::Store => CommandFault::Run(RunFault::Journal),
+        StoreFault::Memory => CommandFault::Run(RunFault::Memory),
     }
 }
 
@@ -72,7 +73,7 @@ fn plan_from<R: Runtime + AllocGlobal, J: Journal>(
 ) -> Result<Status, CommandFault>
     ensures { IfOk result (PlansFrom J.Journal most job.now connector.old connector.new) }
 {
-    let sources = job.read(rt)?;
+    let sources = job.read_files(rt)?;
     let mut out = standard_output(rt)?;
     plan_to(rt, connector, &sources, most, &mut out)
 }

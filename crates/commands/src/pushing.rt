@@ -1,8 +1,8 @@
 //! `push`: the connector against the provider at an address.
-ghost use Rattle.std.specs.Prelude.{IfOk, true, false};
+ghost use Rattle.std.specs.Prelude.{IfOk};
 ghost use Rattle.clap.specs.Matches.{found_of};
 ghost use Rattle.commands.specs.Planning.{IsPlanned, IsPushed, IsPushedAt};
-ghost use Rattle.commands.specs.Running.{GivesConnector, Pushes, PushesFrom, PushesKnown, PushesOver};
+ghost use Rattle.commands.specs.Running.{CarriesAs, GivesConnector, Pushes, PushesFrom, PushesKnown, PushesOver};
 
 use crate::endings::pushed_status;
 use crate::jobs::Job;
@@ -13,15 +13,16 @@ use crate::planning::plan_over;
 use crate::status::{CommandFault, Status};
 use crate::words::to;
 use clap::ArgMatches;
-use connection::TimedHandle;
 use connector_core::Connector;
 use journal_core::Journal;
-use provisioning::{DryJournal, Pace, RunFault, Sources, push_quietly};
+use provisioning::{DryJournal, Outcome, RunFault, Sources, push_quietly};
+use scim_client::ScimService;
 use std::alloc::Global;
 use std::io::{Read, Write};
 use std::net::Net;
 use std::rt::Runtime;
 use storage::{EntryStorage, StoredEntries};
+use timed_streams::TimedHandle;
 
 /// What the arguments want: a plan of a push, or a push. It opens the journal, carries the records of files to the
 /// provider at an address, and closes the journal. What was confirmed stays in the journal, however the run ends.
@@ -130,7 +131,7 @@ fn push_from<'a, R: Runtime + Net + AllocGlobal, J: Journal>(
         ⟦<TimedHandle<'a, R::Stream, R> as Write>⟧.contents J.Journal delivery job.now
         connector.old connector.new result }
 {
-    let sources = job.read(rt)?;
+    let sources = job.read_files(rt)?;
     push_known(rt, connector, job, &sources, to, delivery)
 }
 
@@ -148,47 +149,46 @@ pub(crate) fn push_known<'a, R: Runtime + Net + AllocGlobal, J: Journal>(
         sources.now connector.old connector.new result }
 {
     let mut out = standard_output(rt)?;
-    if delivery.is_quiet {
-        push_quietly_to(rt, connector, job, sources, to, delivery.pace, &mut out)
-    } else {
-        push_to(rt, connector, job, sources, to, delivery.pace, &mut out)
-    }
+    push_to(rt, connector, job, sources, to, delivery, &mut out)
 }
 
-/// Carries the records of files, and prints a line for each.
+/// Carries the records of files, and gives the exit status.
 fn push_to<'a, R: Runtime + Net + AllocGlobal, J: Journal, W: Write + Drop>(
     rt: &'a R,
     connector: &mut Connector<J>,
     job: &Job<'_>,
     sources: &Sources,
     to: &str,
-    pace: Pace,
+    delivery: Delivery,
     out: &mut NotedWriter<W>,
 ) -> Result<Status, CommandFault>
     ensures { Pushes ⟦<TimedHandle<'a, R::Stream, R> as Read>⟧.remaining
-        ⟦<TimedHandle<'a, R::Stream, R> as Write>⟧.contents J.Journal false pace job.now.service
-        sources.now connector.old connector.new out.new.last result }
+        ⟦<TimedHandle<'a, R::Stream, R> as Write>⟧.contents J.Journal delivery.is_quiet
+        delivery.pace job.now.service sources.now connector.old connector.new out.new.last result }
 {
-    let (alloc, service) = (rt.alloc(), &job.service);
-    let ended = provisioning::push(rt, alloc, service, connector, sources, pace, to, out);
-    out.concluded(pushed_status(ended))
+    let carried = push_as(rt, connector, &job.service, sources, to, delivery, out);
+    out.concluded(pushed_status(carried))
 }
 
-/// Carries the records of files, and prints a line for each that isn't confirmed, and the counts.
-fn push_quietly_to<'a, R: Runtime + Net + AllocGlobal, J: Journal, W: Write + Drop>(
+/// Carries the records of files. It prints a line for each, or, if the run is quiet, for each that isn't confirmed, and
+/// the counts.
+fn push_as<'a, R: Runtime + Net + AllocGlobal, J: Journal, W: Write>(
     rt: &'a R,
     connector: &mut Connector<J>,
-    job: &Job<'_>,
+    service: &ScimService,
     sources: &Sources,
     to: &str,
-    pace: Pace,
-    out: &mut NotedWriter<W>,
-) -> Result<Status, CommandFault>
-    ensures { Pushes ⟦<TimedHandle<'a, R::Stream, R> as Read>⟧.remaining
-        ⟦<TimedHandle<'a, R::Stream, R> as Write>⟧.contents J.Journal true pace job.now.service
-        sources.now connector.old connector.new out.new.last result }
+    delivery: Delivery,
+    out: &mut W,
+) -> Result<Outcome, RunFault>
+    ensures { CarriesAs ⟦<TimedHandle<'a, R::Stream, R> as Read>⟧.remaining
+        ⟦<TimedHandle<'a, R::Stream, R> as Write>⟧.contents J.Journal delivery.is_quiet
+        delivery.pace service.now sources.now connector.old connector.new result }
 {
-    let (alloc, service) = (rt.alloc(), &job.service);
-    let carried = push_quietly(rt, alloc, service, connector, sources, pace, to, out);
-    out.concluded(pushed_status(carried))
+    let (alloc, pace) = (rt.alloc(), delivery.pace);
+    if delivery.is_quiet {
+        push_quietly(rt, alloc, service, connector, sources, pace, to, out)
+    } else {
+        provisioning::push(rt, alloc, service, connector, sources, pace, to, out)
+    }
 }

@@ -7,12 +7,10 @@ ghost use Rattle.commands.specs.Listening.{IsServed, ServesEmpty, ServesRows, Se
 
 use crate::endings::outcome_status;
 use crate::status::{CommandFault, Status, listen_fault};
+use crate::stored::serve_stored;
 use crate::words::{address, base, requests};
 use clap::ArgMatches;
-use connection::{
-    AheadReader, ConnectionFault, LateWriter, Listen, PromptStream, SharedStream, Sockets,
-    serve_from_memory,
-};
+use connection::{AheadReader, ConnectionFault, LateWriter, Listen, Sockets, serve_from_memory};
 use provider_core::{MemoryRegistry, Registry};
 use provisioning::CONNECTION_SECONDS;
 use scim_key::Base;
@@ -21,7 +19,8 @@ use std::io::{Read, Write};
 use std::net::{Net, OpenListener, SocketAddr, TcpListener};
 use std::rt::Runtime;
 use std::time::Duration;
-use storage::{RowStorage, StoredRows, serve_stored};
+use storage::{RowStorage, StoredRows};
+use timed_streams::{PromptStream, SharedStream};
 
 /// Serves some connections to an address from the rows of a file, which it opens first, or from a provider in
 /// memory that starts empty.

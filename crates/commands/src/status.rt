@@ -5,13 +5,14 @@ ghost use Rattle.commands.specs.Causes.{error_of, part_of, source_part};
 ghost use Rattle.commands.specs.Statuses.{fault_status, file_fault, journal_fault, lines_fault, look_fault, loop_fault, schedule_fault, show_fault, status_code, store_fault, telling_fault, unless_memory, unread_fault, users_fault, words_fault, world_fault};
 ghost use Rattle.commands.specs.declared.status.CommandFault.TheVariants.{Memory, Output, Unopened};
 
+use crate::looping::LoopFault;
 use crate::manners::MOST_LEAVERS;
 use crate::simulating::EventsFault;
 use crate::words::MOST_REQUESTS;
 use connection::ConnectionFault;
 use mapping::WriteFault;
 use provider_store::RegistryOpenFault;
-use provisioning::{LoopFault, MOST_STREAMS, RunFault, UnreadFile};
+use provisioning::{MOST_STREAMS, RunFault, UnreadFile};
 use scim_key::Kind;
 use source_csv::{ReadFault, SourceFault};
 use std::alloc::{AllocError, AllocFailed};

@@ -6,14 +6,14 @@ use Rattle.scim_message.specs.declared.refusals.Refusal.{Refusal}
 use Rattle.provider_core.specs.declared.registry.Registry.{Ghosts}
 use Rattle.provider_core.specs.Outcomes.{outcome, changed_rows}
 use Rattle.http_text.specs.declared.fault.ReadFault.{ReadFault}
-use Rattle.http_text.specs.Counts.{Writing}
+use Rattle.http_text.specs.Counts.{Writing, fresh_writing}
 use Rattle.http_text.specs.Message.{Message}
 use Rattle.http_text.specs.Judging.{is_head}
 use Rattle.scim_http.specs.Replies.{ReplyRecord}
 use Rattle.connection.specs.declared.answering.Served.{Served}
 use Rattle.connection.specs.Serving.{AnswersMeaning, AnswersMessage, GivesUp, Serves}
 use Rattle.connection.proofs.ReplyLemmas.{sent_so}
-use Rattle.connection.specs.Turns.{Turn, taken, unopened, fresh_writing, IsTurn, AreTurns}
+use Rattle.connection.specs.Turns.{Turn, taken, unopened, IsTurn, AreTurns}
 use Rattle.connection.specs.Requests.{rows_after, FollowRequests}
 
 -- the rows are as they were, or as one request makes them

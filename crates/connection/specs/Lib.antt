@@ -2,7 +2,6 @@ pub mod Reactions
 pub mod Reporting
 pub mod Serving
 pub mod Known
-pub mod Deadlines
 pub mod Listening
 pub mod Requests
 pub mod Streams

@@ -13,10 +13,6 @@ longest_pause = 256_000_000
 abbrev pub drain_time : ℕ
 drain_time = 2_000_000_000
 
--- the longest time that one read of a stream with a deadline waits
-abbrev pub longest_wait : ℕ
-longest_wait = 1_000_000_000
-
 -- the shortest time between two reports of faults
 abbrev pub report_pause : ℕ
 report_pause = 1_000_000_000

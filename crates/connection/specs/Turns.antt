@@ -3,7 +3,7 @@ use Rattle.std.specs.Prelude.{◌≡◌, ◌≤◌, ◌+◌, ℕ, List, [], ◌�
 use Rattle.std.specs.Result.{result_and}
 use Rattle.provider_core.specs.declared.registry.Registry.{Ghosts}
 use Rattle.provider_core.specs.Stores.{IsQuiet}
-use Rattle.http_text.specs.Counts.{Reading, Writing}
+use Rattle.http_text.specs.Counts.{Reading, Writing, fresh_reading, fresh_writing}
 use Rattle.connection.specs.declared.answering.Served.{Served}
 use Rattle.connection.specs.declared.answering.Served.TheVariants.{Answered, NoRequest, Lost}
 use Rattle.connection.specs.Serving.{IsReplied}
@@ -43,13 +43,6 @@ all_opened [] = []
 all_opened (turn ∷ turns) = opened turn ++ all_opened turns
 
 -- ---- what the provider did
-
--- a stream with no counts yet
-abbrev pub fresh_reading : Option (List ℕ) → Reading
-fresh_reading remaining = record { remaining = remaining; ahead = []; calls = 0; failures = 0 }
-
-abbrev pub fresh_writing : Option (List ℕ) → Writing
-fresh_writing contents = record { contents = contents; calls = 0; failures = 0; flushes = 0 }
 
 -- What a peer sent was read from the connection's start, and got this reply; the provider went from one state to the
 -- other

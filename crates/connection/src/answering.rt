@@ -4,7 +4,6 @@ ghost use Rattle.provider_core.specs.Stores.{IsQuiet, CountsFaults, CountsProvid
 ghost use Rattle.provider_core.specs.Outcomes.{outcome, changed_rows};
 ghost use Rattle.provider_core.specs.Calls.{Writes};
 ghost use Rattle.http_text.specs.Counts.{CountsTurns};
-ghost use Rattle.http_text.specs.Judging as judging;
 ghost use Rattle.http_text.specs.Message.{Message};
 ghost use Rattle.http_text.specs.declared.fault.ReadFault.{ReadFault};
 ghost use Rattle.scim_http.specs.Replies.{ReplyRecord, fixed_reply};
@@ -13,7 +12,7 @@ ghost use Rattle.connection.specs.Serving as spec;
 ghost use Rattle.connection.specs.Known.{ServesKnown};
 
 use crate::reactions::{Reaction, reaction_to};
-use http_text::{Incoming, Input, Output, ReadFault, read_request, send};
+use http_text::{Incoming, Input, Output, ReadFault, is_head, read_request, send};
 use provider_core::{
     Answer, ErrorResponse, Meanwhile, Nothing, Provider, ProviderFault, Registry, Request,
 };
@@ -191,7 +190,7 @@ fn reply_to<R: Registry, M: Meanwhile>(
 {
     let leaves_body_out = is_head(incoming);
     match meaning(alloc, incoming) {
-        Ok(request) => carry_out(alloc, provider, base, &request, leaves_body_out, meanwhile),
+        Ok(request) => carry_out(alloc, provider, base, request, leaves_body_out, meanwhile),
         Err(MeaningFault::Refused(refusal)) => Ok(refusal_reply(
             alloc,
             base,
@@ -202,32 +201,26 @@ fn reply_to<R: Registry, M: Meanwhile>(
     }
 }
 
-fn is_head(incoming: &Incoming) -> bool
-    ensures { result ≡ judging.is_head incoming.now.head }
-{
-    incoming.method() == b"HEAD".as_slice()
-}
-
 /// Makes the change of a request, and returns its response, which is formed first.
 fn carry_out<R: Registry, M: Meanwhile>(
     alloc: Global,
     provider: &mut Provider<R>,
     base: &Base,
-    request: &Request,
+    request: Request,
     leaves_body_out: bool,
     meanwhile: &mut M,
 ) -> Result<Reply, ProviderFault>
     ensures reply { IfOk result (spec.AnswersRequest (R.is_faithful provider.new) base.now
-        (R.rows provider.old) (R.rows provider.new) leaves_body_out request.now) }
+        (R.rows provider.old) (R.rows provider.new) leaves_body_out request) }
     ensures writes { Writes R.Registry CountsProviderFault provider.old provider.new
-        (changed_rows (R.rows provider.old) (outcome (R.rows provider.old) request.now).change)
+        (changed_rows (R.rows provider.old) (outcome (R.rows provider.old) request).change)
         result }
     ensures open { R.is_honest provider.new → OnOk result (R.is_faithful provider.new) }
     ensures keeps { M.keeps meanwhile.old meanwhile.new }
 {
     let pending = provider.prepare_meanwhile(alloc, request, meanwhile)?;
     let reply = Reply::of(alloc, pending.answer(), base, leaves_body_out)?;
-    provider.commit(pending)?;
+    provider.commit_change(pending)?;
     Ok(reply)
 }
 

@@ -7,11 +7,11 @@ ghost use Rattle.connection.specs.Streams.{with_unsent};
 use crate::late::LateWriter;
 use crate::limits::drain_time;
 use crate::pace::next_look;
-use crate::prompt::PromptStream;
 use std::io;
 use std::io::{ErrorKind, Read, Write};
 use std::net::OpenStream;
 use std::time::{Clock, Instant};
+use timed_streams::PromptStream;
 
 /// The most bytes that one read discards, and the most reads of one look.
 const DRAIN_READ: usize = 2_048;

@@ -3,13 +3,13 @@ ghost use Rattle.std.specs.Prelude.{◌≡◌, []};
 ghost use Rattle.std.specs.Io.KnownBytes.{Keeps, prepend_known};
 ghost use Rattle.connection.specs.Holding.{HasCome, Looks, is_time};
 
-use crate::deadline::Deadline;
 use crate::pace::next_look;
 use crate::received::Received;
 use http_text::{BODY_LIMIT, HEAD_LIMIT};
 use std::alloc::Global;
 use std::io::{ErrorKind, Read};
 use std::time::Instant;
+use timed_streams::Deadline;
 
 /// The most bytes that a request has.
 const MOST_BYTES: usize = HEAD_LIMIT + BODY_LIMIT as usize;

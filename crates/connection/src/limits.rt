@@ -1,7 +1,7 @@
 //! The limits of connections.
 ghost use Rattle.std.specs.Prelude.{◌≡◌};
 ghost use Rattle.std.specs.Duration.{as_nanos};
-ghost use Rattle.connection.specs.Limits.{drain_time, granted, longest_pause, longest_wait, report_pause};
+ghost use Rattle.connection.specs.Limits.{drain_time, granted, longest_pause, report_pause};
 
 use std::time::Duration;
 
@@ -46,13 +46,6 @@ pub(crate) fn drain_time() -> Duration
     ensures { as_nanos result ≡ drain_time }
 {
     Duration::from_secs(2)
-}
-
-/// The longest time that one read of a `TimedStream` waits.
-pub(crate) fn longest_wait() -> Duration
-    ensures { as_nanos result ≡ longest_wait }
-{
-    Duration::from_secs(1)
 }
 
 /// The shortest time between two reports of faults.

@@ -4,7 +4,6 @@ ghost use Rattle.connection.specs.Reporting.{with_more};
 
 use crate::accepting::makes_room;
 use crate::ahead::AheadReader;
-use crate::deadline::Deadline;
 use crate::ending::Ending;
 use crate::endings::Endings;
 use crate::faults::{FaultCount, may_report};
@@ -14,9 +13,7 @@ use crate::limits::{
     MOST_IN_A_ROW, MOST_READY, count_pause, first_sleep, longest_sleep, longest_turn,
 };
 use crate::listening::Listen;
-use crate::prompt::PromptStream;
 use crate::serving::{ConnectionFault, tell};
-use crate::shared::SharedStream;
 use crate::waiting::Waiting;
 use provider_core::Meanwhile;
 use std::alloc::Global;
@@ -25,6 +22,7 @@ use std::io::{Eprint, ErrorKind, Read, Write};
 use std::net::{OpenListener, OpenStream};
 use std::time::{Clock, Duration, Instant};
 use std::{io, thread};
+use timed_streams::{Deadline, PromptStream, SharedStream};
 
 /// How often it is looked for something to do before the first sleep.
 const LOOKS_AT_ONCE: u32 = 50;

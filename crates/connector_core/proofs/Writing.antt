@@ -4,8 +4,8 @@ use Rattle.journal_core.specs.Calls.{Writes}
 use Rattle.journal_core.specs.Entries.{EntryMap}
 use Rattle.journal_core.specs.Stores.{CountsFault}
 use Rattle.journal_core.specs.declared.journals.Journal.{Ghosts}
-use Rattle.journal_core.specs.declared.journals.JournalFault.{JournalFault}
-use Rattle.journal_core.specs.declared.journals.JournalFault.TheVariants.{Store, Memory}
+use Rattle.scim_key.specs.declared.stores.StoreFault.{StoreFault}
+use Rattle.scim_key.specs.declared.stores.StoreFault.TheVariants.{Store, Memory}
 use Rattle.connector_core.specs.Changing.{CountsChange, change_fault}
 use Rattle.connector_core.specs.declared.changing.ChangeFault.{ChangeFault}
 
@@ -68,12 +68,12 @@ module _ {J : Type 0} (g : Ghosts J) where
     unwritten = w.unwritten;
   }
 
-  counted-so : (old new : ℕ) (fault : JournalFault) → CountsFault old new fault → CountsChange old new (change_fault fault)
+  counted-so : (old new : ℕ) (fault : StoreFault) → CountsFault old new fault → CountsChange old new (change_fault fault)
   counted-so old new Store counts = counts
   counted-so old new Memory counts = counts
 
   -- a fault of the journal is the call's
-  pub put-failed : {T : Type 0} (old new : J) (later : EntryMap) (fault : JournalFault) → Writes {T = Unit {0}} g CountsFault old new later (Err fault)
+  pub put-failed : {T : Type 0} (old new : J) (later : EntryMap) (fault : StoreFault) → Writes {T = Unit {0}} g CountsFault old new later (Err fault)
       → Writes {T = T} g CountsChange old new later (Err (change_fault fault))
   put-failed old new later fault w = record {
     was = w.was;

@@ -10,8 +10,8 @@ use Rattle.source_csv.specs.Records.{row_name}
 use Rattle.source_csv.specs.declared.rows.Row.{Row}
 use Rattle.journal_core.specs.Entries.{EntryMap, count_of, most_records, with_row as put_row}
 use Rattle.journal_core.specs.Stores.{HasRisen}
-use Rattle.journal_core.specs.declared.journals.JournalFault.{JournalFault}
-use Rattle.journal_core.specs.declared.journals.JournalFault.TheVariants as journal
+use Rattle.scim_key.specs.declared.stores.StoreFault.{StoreFault}
+use Rattle.scim_key.specs.declared.stores.StoreFault.TheVariants as store
 use Rattle.connector_core.specs.History.{History, user, members_of, last_row, missing_member}
 use Rattle.connector_core.specs.Accepting.{accepted}
 use Rattle.connector_core.specs.declared.accepting.BookFault.{BookFault}
@@ -101,9 +101,9 @@ CountsChange old new Store = (old ≤ new) × HasRisen old new
 CountsChange old new Memory = new ≡ old
 
 -- the connector's fault for a fault of its journal
-abbrev pub change_fault : JournalFault → ChangeFault
-change_fault journal.Store = Store
-change_fault journal.Memory = Memory
+abbrev pub change_fault : StoreFault → ChangeFault
+change_fault store.Store = Store
+change_fault store.Memory = Memory
 
 -- ---- how the history and the book change
 

@@ -10,8 +10,8 @@ use Rattle.scim_message.specs.declared.messages.Request.{Request}
 use Rattle.source_csv.specs.Records.{row_revision}
 use Rattle.journal_core.specs.Entries.{EntryMap, with_learnt}
 use Rattle.journal_core.specs.Stores.{HasRisen}
-use Rattle.journal_core.specs.declared.journals.JournalFault.{JournalFault}
-use Rattle.journal_core.specs.declared.journals.JournalFault.TheVariants as journal
+use Rattle.scim_key.specs.declared.stores.StoreFault.{StoreFault}
+use Rattle.scim_key.specs.declared.stores.StoreFault.TheVariants as store
 use Rattle.connector_core.specs.Book.{Book, IsSeenWith, learning, seeing}
 use Rattle.connector_core.specs.Learning.{Finding, Learning, Lesson, Sight, finding, fits_id, learn, lesson, noted, or_fault, subject}
 use Rattle.connector_core.specs.Maps.{BookMap, book_of}
@@ -92,9 +92,9 @@ CountsLearn old new Store = (old ≤ new) × HasRisen old new
 CountsLearn old new Memory = new ≡ old
 
 -- the connector's fault for a fault of its journal
-abbrev pub learn_fault : JournalFault → LearnFault
-learn_fault journal.Store = Store
-learn_fault journal.Memory = Memory
+abbrev pub learn_fault : StoreFault → LearnFault
+learn_fault store.Store = Store
+learn_fault store.Memory = Memory
 
 -- ---- news about a record
 

@@ -8,8 +8,8 @@ use Rattle.journal_core.specs.Entries.{EntryMap, IsUpTo}
 use Rattle.journal_core.specs.Stores.{HasRisen}
 use Rattle.journal_core.specs.declared.entries.Entry.{Entry}
 use Rattle.journal_core.specs.declared.journals.Journal.{Ghosts as Journals}
-use Rattle.journal_core.specs.declared.journals.JournalFault.{JournalFault}
-use Rattle.journal_core.specs.declared.journals.JournalFault.TheVariants as journal
+use Rattle.scim_key.specs.declared.stores.StoreFault.{StoreFault}
+use Rattle.scim_key.specs.declared.stores.StoreFault.TheVariants as store
 use Rattle.connector_core.specs.Book.{Book}
 use Rattle.connector_core.specs.Maps.{BookMap, book_of}
 use Rattle.connector_core.specs.declared.knowledge.Known.{Known}
@@ -82,9 +82,9 @@ journal_after (Err fault) = fault.1
 -- ---- faults
 
 -- the connector's fault for a fault of its journal
-abbrev pub open_fault : JournalFault → ConnectorOpenFault
-open_fault journal.Store = opening.Store
-open_fault journal.Memory = opening.Memory
+abbrev pub open_fault : StoreFault → ConnectorOpenFault
+open_fault store.Store = opening.Store
+open_fault store.Memory = opening.Memory
 
 -- a store fault is counted; out of memory isn't
 abbrev pub CountsOpen : (old new : ℕ) → ConnectorOpenFault → Type 0

@@ -24,6 +24,10 @@ use source_csv::{GroupRow, Row};
 use std::alloc::{AllocError, Global};
 use thiserror::Error;
 
+/// The most exchanges that one record takes: a search, a creation or a replacement, and one more if somebody else was
+/// faster.
+pub const MOST_EXCHANGES: u32 = 3;
+
 /// What the connector asks for next for a record.
 #[derive(Drop)]
 pub enum Ask {

@@ -18,8 +18,8 @@ use crate::accepting::{BookFault, Verdict, accept};
 use crate::books::Book;
 use crate::connectors::Connector;
 use crate::taking::{take_back, take_row};
-use journal_core::{GROUP_LIMIT, Journal, JournalFault, USER_LIMIT};
-use scim_key::{Key, Kind, RecordName};
+use journal_core::{GROUP_LIMIT, Journal, USER_LIMIT};
+use scim_key::{Key, Kind, RecordName, StoreFault};
 use source_csv::{GroupRow, Row};
 use std::alloc::{AllocError, Global};
 use std::{error, fmt};
@@ -67,15 +67,15 @@ impl From<AllocError> for ChangeFault {
     }
 }
 
-impl From<JournalFault> for ChangeFault {
+impl From<StoreFault> for ChangeFault {
     ghost use Rattle.connector_core.specs.Changing.{change_fault};
 
     ghost from_gives = { λ from fault. fault ≡ change_fault from };
 
-    fn from(fault: JournalFault) -> ChangeFault {
+    fn from(fault: StoreFault) -> ChangeFault {
         match fault {
-            JournalFault::Store => ChangeFault::Store,
-            JournalFault::Memory => ChangeFault::Memory,
+            StoreFault::Store => ChangeFault::Store,
+            StoreFault::Memory => ChangeFault::Memory,
         }
     }
 }

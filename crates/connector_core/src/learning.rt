@@ -12,9 +12,9 @@ use crate::books::Book;
 use crate::connectors::Connector;
 use crate::findings::news_in;
 use crate::fitting::News;
-use journal_core::{Journal, JournalFault};
+use journal_core::Journal;
 use scim_filter::Filter;
-use scim_key::{Kind, RecordName, Revision};
+use scim_key::{Kind, RecordName, Revision, StoreFault};
 use scim_message::{Answer, Request};
 use std::alloc::{AllocError, Global};
 use std::{error, fmt};
@@ -80,15 +80,15 @@ impl From<AllocError> for LearnFault {
     }
 }
 
-impl From<JournalFault> for LearnFault {
+impl From<StoreFault> for LearnFault {
     ghost use Rattle.connector_core.specs.Noting.{learn_fault};
 
     ghost from_gives = { λ from fault. fault ≡ learn_fault from };
 
-    fn from(fault: JournalFault) -> LearnFault {
+    fn from(fault: StoreFault) -> LearnFault {
         match fault {
-            JournalFault::Store => LearnFault::Store,
-            JournalFault::Memory => LearnFault::Memory,
+            StoreFault::Store => LearnFault::Store,
+            StoreFault::Memory => LearnFault::Memory,
         }
     }
 }

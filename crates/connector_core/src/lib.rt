@@ -19,7 +19,7 @@ mod taking;
 pub use accepting::{
     BookFault, Verdict, accept, accept_is_by_history, histories_rise, new_rows_go_on,
 };
-pub use asking::{Ask, AskFault};
+pub use asking::{Ask, AskFault, MOST_EXCHANGES};
 pub use changing::ChangeFault;
 pub use connectors::Connector;
 pub use knowledge::{Known, Seen};

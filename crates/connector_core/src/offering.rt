@@ -182,11 +182,10 @@ impl<J: Journal> Connector<J> {
             (keys (taking_all self.old.book rows.items)) result }
     {
         let Offered { said, fresh, notes } = offer(self.alloc, &mut self.book, rows)?;
-        let put = fresh.as_slice();
-        if put.is_empty() {
+        if fresh.as_slice().is_empty() {
             return Ok(said);
         }
-        match self.journal.put_rows(put) {
+        match self.journal.put_rows(fresh) {
             Ok(()) => Ok(said),
             Err(fault) => {
                 take_all_back(&mut self.book, notes);

@@ -4,7 +4,8 @@ ghost use Rattle.connector_core.specs.State.{opened, opened_book};
 
 use crate::books::Book;
 use crate::knowledge::{Known, Seen};
-use journal_core::{Entry, JournalFault};
+use journal_core::Entry;
+use scim_key::StoreFault;
 use std::alloc::{AllocError, Global};
 use thiserror::Error;
 
@@ -18,15 +19,15 @@ pub enum ConnectorOpenFault {
     Memory,
 }
 
-impl From<JournalFault> for ConnectorOpenFault {
+impl From<StoreFault> for ConnectorOpenFault {
     ghost use Rattle.connector_core.specs.State.{open_fault};
 
     ghost from_gives = { λ from fault. fault ≡ open_fault from };
 
-    fn from(fault: JournalFault) -> ConnectorOpenFault {
+    fn from(fault: StoreFault) -> ConnectorOpenFault {
         match fault {
-            JournalFault::Store => ConnectorOpenFault::Store,
-            JournalFault::Memory => ConnectorOpenFault::Memory,
+            StoreFault::Store => ConnectorOpenFault::Store,
+            StoreFault::Memory => ConnectorOpenFault::Memory,
         }
     }
 }

@@ -17,7 +17,7 @@ use Rattle.httparse.specs.Spans.{name_and_value}
 use Rattle.httparse.proofs.TrimLemmas.{AllPass-reverse, trim_ows_space}
 use Rattle.http_text.specs.Message.{NamedValue, request_line, status_line}
 use Rattle.http_text.specs.Forms.{request_form, response_form}
-use Rattle.http_text.specs.Response.{phrase_of, field_line, response_head, response_text}
+use Rattle.http_text.specs.Response.{phrase_of, field_line, message_text, response_head, response_text}
 use Rattle.http_text.specs.Texts.{request_head, request_text, IsFieldLine, IsTarget, IsRead, TextsAreRead}
 
 -- ---- field lines
@@ -162,12 +162,12 @@ texts_are_read = record { request = request_read; response = response_read }
 
 -- m the method, s a space, t the target, v the version, e the line's end, l the field lines
 regroup : (m s t v e l body : List ℕ)
-    → ((((((([] ++ m) ++ s) ++ t) ++ (s ++ (v ++ e))) ++ l) ++ e) ++ body)
+    → (m ++ (s ++ (t ++ ((s ++ v) ++ [])))) ++ (e ++ (l ++ (e ++ body)))
     ≡ (((((([] ++ m) ++ (s ++ t)) ++ (s ++ v)) ++ e) ++ (l ++ e)) ++ body)
-regroup m s t v e l body = simp append_assoc
+regroup m s t v e l body = simp (append_assoc, append-nil)
 
 pub request_parts : (method target : List ℕ) (fields : List NamedValue) (body : List ℕ)
-    → ((((((([] ++ method) ++ 32 ∷ []) ++ target) ++ codes " HTTP/1.1\r\n") ++ flat_map print_field (map field_line fields)) ++ 13 ∷ 10 ∷ []) ++ body)
+    → message_text (method ++ (codes " " ++ (target ++ (codes " HTTP/1.1" ++ [])))) fields body
     ≡ request_text method target fields body
 unfolding print_request
 request_parts method target fields body =

@@ -1,5 +1,5 @@
 -- The counts of a stream, and where a count stops.
-use Rattle.std.specs.Prelude.{◌≡◌, ℕ, ◌+◌, ◌-◌, ◌^◌, ◌<◌, ◌≤◌, ◌⊎◌, max, min, List, Option}
+use Rattle.std.specs.Prelude.{◌≡◌, ℕ, ◌+◌, ◌-◌, ◌^◌, ◌<◌, ◌≤◌, ◌⊎◌, max, min, List, [], Option}
 use Rattle.http_text.specs.declared.limits.TheConstants.{TURN_LIMIT}
 
 -- no count goes above this
@@ -31,6 +31,13 @@ pub record Writing : Type 0 where
   pub failures : ℕ
   -- its flushes so far
   pub flushes : ℕ
+
+-- with no counts yet, and nothing read ahead
+abbrev pub fresh_reading : Option (List ℕ) → Reading
+fresh_reading remaining = record { remaining = remaining; ahead = []; calls = 0; failures = 0 }
+
+abbrev pub fresh_writing : Option (List ℕ) → Writing
+fresh_writing contents = record { contents = contents; calls = 0; failures = 0; flushes = 0 }
 
 -- a count rose, or was already the greatest
 abbrev pub HasRisen : ℕ → ℕ → Type 0

@@ -87,13 +87,6 @@ impl<R: Read> Input<R> {
         self.reads
     }
 
-    /// How many reads failed.
-    pub fn failures(&self) -> u64
-        ensures { result ≡ self.now.failures }
-    {
-        self.failed_reads
-    }
-
     /// Takes `count` of the bytes that were read ahead.
     pub(crate) fn take(&mut self, count: usize)
         requires { count ≤ length self.old.ahead }

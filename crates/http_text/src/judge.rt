@@ -53,7 +53,8 @@ fn response_length(is_bodiless: bool, length: Option<u64>) -> Result<u64, ReadFa
     }
 }
 
-fn is_head(message: &Incoming) -> bool
+/// Whether the method is HEAD.
+pub fn is_head(message: &Incoming) -> bool
     ensures { result ≡ is_head message.now.head }
 {
     message.method() == b"HEAD".as_slice()

@@ -71,13 +71,6 @@ impl<W: Write> Output<W> {
         self.calls
     }
 
-    /// How many writes and flushes failed.
-    pub fn failures(&self) -> u64
-        ensures { result ≡ self.now.failures }
-    {
-        self.failures
-    }
-
     pub(crate) fn write(&mut self, bytes: &[u8]) -> WriteTurn
         requires { 0 < length bytes.now }
         ensures bytes { Writes self.old.contents self.new.contents bytes.now result }

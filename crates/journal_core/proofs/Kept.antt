@@ -19,7 +19,7 @@ use Rattle.journal_core.specs.Memory.{AreLawful, MemoryRecord, entries_in}
 use Rattle.journal_core.specs.Calls.{Writes}
 use Rattle.journal_core.specs.Stores.{CountsFault}
 use Rattle.journal_core.specs.contracts.memory.MemoryJournalJournal.TheImpl as impl
-use Rattle.journal_core.specs.declared.journals.JournalFault.{JournalFault}
+use Rattle.scim_key.specs.declared.stores.StoreFault.{StoreFault}
 use Rattle.journal_core.specs.declared.entries.Entry.{Entry}
 use Rattle.journal_core.proofs.Trees.{get-tree, insert-tree, entries-tree, name_from_test}
 
@@ -128,7 +128,7 @@ learnt-put old new name confirmed id copy lawful can same updates =
 abbrev after : EntryMap → ℕ → MemoryRecord
 after entries writes = record { entries = entries; writes = writes }
 
-abbrev answered : Result (Unit {0}) JournalFault
+abbrev answered : Result (Unit {0}) StoreFault
 answered = Ok tt
 
 -- the record of a call that made the entries these, and counted a write

@@ -5,3 +5,4 @@ pub mod Calls
 pub mod Memory
 pub mod MemoryLaws
 pub mod Words
+pub mod Printable

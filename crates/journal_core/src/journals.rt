@@ -5,39 +5,8 @@ ghost use Rattle.journal_core.specs.Entries.{EntryMap, IsListOf, CanPutRow, CanP
 ghost use Rattle.journal_core.specs.Stores.{CountsFault, HasRisen, OnlyReads, WritesOnce};
 
 use crate::entries::Entry;
-use scim_key::{RecordName, ResourceId, Revision};
+use scim_key::{RecordName, ResourceId, Revision, StoreFault};
 use source_csv::Row;
-use std::alloc::{AllocError, AllocFailed};
-use thiserror::Error;
-
-/// Why a call of a journal failed. The entries are unchanged.
-#[derive(Clone, Copy, Debug, PartialEq, Eq, Error)]
-pub enum JournalFault {
-    #[error("J1")]
-    Store,
-    #[error("J3")]
-    Memory,
-}
-
-impl From<AllocError> for JournalFault {
-    ghost use Rattle.journal_core.specs.declared.journals.JournalFault.TheVariants.{Memory};
-
-    ghost from_gives = { λ _ fault. fault ≡ Memory };
-
-    fn from(_: AllocError) -> JournalFault {
-        JournalFault::Memory
-    }
-}
-
-impl<T: Drop> From<AllocFailed<T>> for JournalFault {
-    ghost use Rattle.journal_core.specs.declared.journals.JournalFault.TheVariants.{Memory};
-
-    ghost from_gives = { λ _ fault. fault ≡ Memory };
-
-    fn from(_: AllocFailed<T>) -> JournalFault {
-        JournalFault::Memory
-    }
-}
 
 /// The entries of a connector, one for each record.
 ///
@@ -59,7 +28,7 @@ pub trait Journal {
     ghost writes: { Self → ℕ };
 
     /// All entries, in order of the records' names.
-    fn load(&mut self) -> Result<Vec<Entry>, JournalFault>
+    fn load(&mut self) -> Result<Vec<Entry>, StoreFault>
         ensures ok { is_faithful self.new
             → IfOk result (λ list. IsListOf (entries self.old) list.items) }
         ensures reads { OnlyReads entries is_faithful is_honest may_hold faults writes CountsFault
@@ -67,7 +36,7 @@ pub trait Journal {
 
     /// Replaces the last row of the row's record, whose id and confirmed revision stay. A new record has
     /// neither.
-    fn put_row(&mut self, row: &Row) -> Result<(), JournalFault>
+    fn put_row(&mut self, row: &Row) -> Result<(), StoreFault>
         requires lawful { is_faithful self.old → CanPutRow (entries self.old) row.now }
         ensures puts { WritesOnce entries is_faithful is_honest may_hold faults writes CountsFault
             self.old self.new (with_row (entries self.old) row.now) result }
@@ -75,10 +44,10 @@ pub trait Journal {
         ensures counted { OnOk result (HasRisen (writes self.old) (writes self.new)) };
 
     /// Puts these rows, one after another, by one write: all or none.
-    fn put_rows(&mut self, rows: &[Row]) -> Result<(), JournalFault>
-        requires lawful { is_faithful self.old → CanPutRows (entries self.old) rows.now }
+    fn put_rows(&mut self, rows: Vec<Row>) -> Result<(), StoreFault>
+        requires lawful { is_faithful self.old → CanPutRows (entries self.old) rows.items }
         ensures puts { WritesOnce entries is_faithful is_honest may_hold faults writes CountsFault
-            self.old self.new (with_rows (entries self.old) rows.now) result }
+            self.old self.new (with_rows (entries self.old) rows.items) result }
         ensures open { is_honest self.new → OnOk result (is_faithful self.new) }
         ensures counted { OnOk result (HasRisen (writes self.old) (writes self.new)) };
 
@@ -88,7 +57,7 @@ pub trait Journal {
         name: &RecordName,
         confirmed: Revision,
         id: &ResourceId,
-    ) -> Result<(), JournalFault>
+    ) -> Result<(), StoreFault>
         requires lawful { is_faithful self.old
             → CanPutLearnt (entries self.old) name.now confirmed }
         ensures puts { WritesOnce entries is_faithful is_honest may_hold faults writes CountsFault

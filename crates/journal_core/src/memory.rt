@@ -7,11 +7,11 @@ ghost use Rattle.std.specs.Option.{option_map};
 ghost use Rattle.scim_key.specs.Records.{name_cmp};
 ghost use Rattle.journal_core.specs.Entries.{CanPutRow, CanPutRows, entry_learnt, entry_with, with_row, with_rows};
 ghost use Rattle.journal_core.specs.Memory.{AreLawful, entries_in};
-ghost use Rattle.journal_core.specs.declared.journals.JournalFault.TheVariants.{Memory};
+ghost use Rattle.scim_key.specs.declared.stores.StoreFault.TheVariants.{Memory};
 
 use crate::entries::Entry;
-use crate::journals::{Journal, JournalFault};
-use scim_key::{RecordName, ResourceId, Revision};
+use crate::journals::Journal;
+use scim_key::{RecordName, ResourceId, Revision, StoreFault};
 use source_csv::Row;
 use std::alloc::{AllocError, AllocFailed, Global};
 use std::collections::BTreeMap;
@@ -92,22 +92,21 @@ fn put_row(
     Ok(())
 }
 
-/// Puts a copy of a row.
-fn put_copy(
+/// Puts a row under the name of its record.
+fn put_named(
     alloc: Global,
     entries: &mut BTreeMap<RecordName, Entry>,
-    row: &Row,
-) -> Result<(), JournalFault>
+    row: Row,
+) -> Result<(), StoreFault>
     requires lawful { AreLawful entries.old }
-    requires can { CanPutRow (entries_in entries.old) row.now }
+    requires can { CanPutRow (entries_in entries.old) row }
     ensures lawful { AreLawful entries.new }
-    ensures put { OnOk result (entries_in entries.new ≡ with_row (entries_in entries.old) row.now) }
+    ensures put { OnOk result (entries_in entries.new ≡ with_row (entries_in entries.old) row) }
     ensures err { OnErr result (entries.new.entries ≡ entries.old.entries) }
     ensures fault { IfErr result (λ fault. fault ≡ Memory) }
 {
     let name = row.record_name(alloc)?;
-    let copy = row.clone()?;
-    put_row(entries, name, copy)?;
+    put_row(entries, name, row)?;
     Ok(())
 }
 
@@ -115,18 +114,18 @@ fn put_copy(
 fn copy_with(
     alloc: Global,
     entries: &BTreeMap<RecordName, Entry>,
-    rows: &[Row],
-) -> Result<BTreeMap<RecordName, Entry>, JournalFault>
+    rows: Vec<Row>,
+) -> Result<BTreeMap<RecordName, Entry>, StoreFault>
     requires lawful { AreLawful entries.now }
-    requires can { CanPutRows (entries_in entries.now) rows.now }
+    requires can { CanPutRows (entries_in entries.now) rows.items }
     ensures lawful { IfOk result AreLawful }
     ensures put { IfOk result (λ copy. entries_in copy
-        ≡ with_rows (entries_in entries.now) rows.now) }
+        ≡ with_rows (entries_in entries.now) rows.items) }
     ensures fault { IfErr result (λ fault. fault ≡ Memory) }
 {
     let mut copy = entries.clone()?;
     for row in rows {
-        put_copy(alloc, &mut copy, row)?;
+        put_named(alloc, &mut copy, row)?;
     }
     Ok(copy)
 }
@@ -161,17 +160,17 @@ impl Journal for MemoryJournal {
 
     ghost writes = { λ j. j.writes };
 
-    fn load(&mut self) -> Result<Vec<Entry>, JournalFault> {
+    fn load(&mut self) -> Result<Vec<Entry>, StoreFault> {
         Ok(copies(self.alloc, &self.entries)?)
     }
 
-    fn put_row(&mut self, row: &Row) -> Result<(), JournalFault> {
-        put_copy(self.alloc, &mut self.entries, row)?;
+    fn put_row(&mut self, row: &Row) -> Result<(), StoreFault> {
+        put_named(self.alloc, &mut self.entries, row.clone()?)?;
         self.writes = self.writes.saturating_add(1);
         Ok(())
     }
 
-    fn put_rows(&mut self, rows: &[Row]) -> Result<(), JournalFault> {
+    fn put_rows(&mut self, rows: Vec<Row>) -> Result<(), StoreFault> {
         self.entries = copy_with(self.alloc, &self.entries, rows)?;
         self.writes = self.writes.saturating_add(1);
         Ok(())
@@ -182,7 +181,7 @@ impl Journal for MemoryJournal {
         name: &RecordName,
         confirmed: Revision,
         id: &ResourceId,
-    ) -> Result<(), JournalFault> {
+    ) -> Result<(), StoreFault> {
         let id = id.clone()?;
         put_learnt(&mut self.entries, name, confirmed, id);
         self.writes = self.writes.saturating_add(1);

@@ -3,7 +3,7 @@ use Rattle.std.proofs.Common.{◌≡◌, Result, Ok, Err, OnOk, OnErr, subst, �
 use Rattle.sqlite_trees.specs.declared.store.Store.{Ghosts}
 use Rattle.journal_core.specs.Entries.{EntryMap}
 use Rattle.journal_core.specs.Stores.{CountsFault, CountsFaults}
-use Rattle.journal_core.specs.declared.journals.JournalFault.{JournalFault}
+use Rattle.scim_key.specs.declared.stores.StoreFault.{StoreFault}
 use Rattle.journal_store.specs.Calls.{Reads, Writes}
 use Rattle.journal_store.specs.Kept.{IsFaithful, Kept}
 
@@ -16,12 +16,12 @@ on_err (Ok x) f p = tt
 on_err (Err e) f p = f p
 
 -- a fault, as the result of a call that would have answered this
-abbrev pub fault_as : (T : Type 0) → JournalFault → Result T JournalFault
+abbrev pub fault_as : (T : Type 0) → StoreFault → Result T StoreFault
 fault_as T fault = Err fault
 
 module _ {S : Type 0} (g : Ghosts S) where
   -- a call that only reads, after another that read and succeeded
-  pub reads_on : {T U : Type 0} {old mid new : Kept S} {value : T} {result : Result U JournalFault} → Reads g old mid (Ok value) → Reads g mid new result → Reads g old new result
+  pub reads_on : {T U : Type 0} {old mid new : Kept S} {value : T} {result : Result U StoreFault} → Reads g old mid (Ok value) → Reads g mid new result → Reads g old new result
   reads_on {new} {result} one two = record {
     was = λ faithful. one.was (two.was faithful);
     same = λ faithful. two.same faithful ∙ one.same (two.was faithful);
@@ -37,7 +37,7 @@ module _ {S : Type 0} (g : Ghosts S) where
   answered_so y r = record { was = r.was; same = r.same; honest = r.honest; opened = r.opened; stop = r.stop; counted = r.counted; unwritten = r.unwritten }
 
   -- a call that writes, after another that read and succeeded
-  pub writes_on : {T : Type 0} {old mid new : Kept S} {value : T} {later wanted : EntryMap} {result : Result (Unit {0}) JournalFault}
+  pub writes_on : {T : Type 0} {old mid new : Kept S} {value : T} {later wanted : EntryMap} {result : Result (Unit {0}) StoreFault}
       → Reads g old mid (Ok value) → (IsFaithful g mid → later ≡ wanted)
       → Writes g mid new later result → Writes g old new wanted result
   writes_on {new} {result} one means two = record {
@@ -55,5 +55,5 @@ module _ {S : Type 0} (g : Ghosts S) where
   }
 
   -- a call that fails, after another that read
-  pub fails_so : {T : Type 0} (U : Type 0) {old new : Kept S} {x : T} (fault : JournalFault) → Reads g old new (Ok x) → CountsFault old.faults new.faults fault → Reads g old new (fault_as U fault)
+  pub fails_so : {T : Type 0} (U : Type 0) {old new : Kept S} {x : T} (fault : StoreFault) → Reads g old new (Ok x) → CountsFault old.faults new.faults fault → Reads g old new (fault_as U fault)
   fails_so U fault r counts = record { was = r.was; same = r.same; honest = r.honest; opened = λ _. tt; stop = r.stop; counted = counts; unwritten = r.unwritten }

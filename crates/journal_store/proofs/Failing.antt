@@ -1,12 +1,10 @@
 -- Why a call fails although there is memory.
 use Rattle.std.proofs.Common.{◌≡◌, ◌⊎◌, Result, Ok, Err, IfErr, IsErrAnd, sym, subst, inl, inr}
-use Rattle.sql_tables.specs.Faults.{FailsFor as FailedFor}
-use Rattle.sql_tables.specs.declared.statements.StatementFault.{StatementFault}
-use Rattle.sql_tables.specs.declared.statements.StatementFault.TheVariants as statement
-use Rattle.journal_core.specs.declared.journals.JournalFault.{JournalFault}
-use Rattle.journal_core.specs.declared.journals.JournalFault.TheVariants as journal
+use Rattle.sql_tables.specs.Faults.{FailsFor as CallFailsFor}
+use Rattle.sql_tables.proofs.Failing.{fails_by as calls_by}
+use Rattle.scim_key.specs.declared.stores.StoreFault.{StoreFault}
+use Rattle.scim_key.specs.declared.stores.StoreFault.TheVariants as store
 use Rattle.journal_store.specs.Faults.{FailsFor, HasCause, IsOfRow, table_of}
-use Rattle.journal_store.specs.Kept.{CallFailsFor}
 use Rattle.journal_store.specs.Opening.{IsFor, OpenFailsFor, journal_fault, table_fault}
 use Rattle.journal_store.specs.declared.opening.JournalOpenFault.{JournalOpenFault}
 use Rattle.journal_store.specs.declared.opening.JournalOpenFault.TheVariants as opening
@@ -30,17 +28,13 @@ row_fails P table.Damaged it = tt
 row_fails P table.Memory it = tt
 
 -- a fault of a statement has the cause that it had there
-pub fails_as : (P : Type 0) (fault : StatementFault) → FailedFor P fault → FailsFor P (table_of fault)
-fails_as P statement.Store it = it
-fails_as P statement.Memory it = tt
+pub fails_as : (P : Type 0) (fault : StoreFault) → CallFailsFor P fault → FailsFor P (table_of fault)
+fails_as P store.Store it = it
+fails_as P store.Memory it = tt
 
 -- ---- the calls of a journal
 
-pub calls_by : (P Q : Type 0) → (P → Q) → (fault : JournalFault) → CallFailsFor P fault → CallFailsFor Q fault
-calls_by P Q h journal.Store it = h it
-calls_by P Q h journal.Memory it = tt
-
-pub calls_of : {T : Type 0} (P Q : Type 0) → (P → Q) → (r : Result T JournalFault) (fault : JournalFault) → IsErrAnd r (λ given. given ≡ fault) → CallFailsFor P fault → IfErr r (CallFailsFor Q)
+pub calls_of : {T : Type 0} (P Q : Type 0) → (P → Q) → (r : Result T StoreFault) (fault : StoreFault) → IsErrAnd r (λ given. given ≡ fault) → CallFailsFor P fault → IfErr r (CallFailsFor Q)
 calls_of P Q h (Ok x) fault is it = tt
 calls_of P Q h (Err given) fault is it = subst (CallFailsFor Q) (sym is) (calls_by P Q h fault it)
 

@@ -7,7 +7,7 @@ use Rattle.sqlite.specs.Held.{state}
 use Rattle.sqlite.specs.State.{State, HasCleanDisk, Survives}
 use Rattle.journal_core.specs.Entries.{EntryMap}
 use Rattle.journal_core.specs.Stores.{CountsFault, CountsFaults}
-use Rattle.journal_core.specs.declared.journals.JournalFault.{JournalFault}
+use Rattle.scim_key.specs.declared.stores.StoreFault.{StoreFault}
 use Rattle.journal_store.specs.Calls.{Reads, Writes, call_result}
 use Rattle.journal_store.specs.declared.statements.TableFault.{TableFault}
 use Rattle.journal_store.specs.Rows.{entries_in}
@@ -16,10 +16,10 @@ use Rattle.sql_tables.proofs.Keeping.{kept_now, laid_still}
 use Rattle.journal_store.specs.Connections.{Commits, HasNumbers, IsLaid}
 use Rattle.journal_store.specs.Kept.{Kept, IsFaithful, IsSound, IsWhole, MayHold, kept_entries}
 
-abbrev pub answered : Result (Unit {0}) JournalFault
+abbrev pub answered : Result (Unit {0}) StoreFault
 answered = Ok tt
 
-abbrev pub failing : JournalFault → Result (Unit {0}) JournalFault
+abbrev pub failing : StoreFault → Result (Unit {0}) StoreFault
 failing fault = Err fault
 
 module _ {S : Type 0} (g : Ghosts S) where
@@ -52,7 +52,7 @@ module _ {S : Type 0} (g : Ghosts S) where
   if_ok (Ok x) f p = f p
   if_ok (Err e) f p = tt
 
-  pub read_only : {T : Type 0} (old new : Kept S) (result : Result T JournalFault) → IsTrue old.is_usable → new.is_usable ≡ old.is_usable → new.writes ≡ old.writes
+  pub read_only : {T : Type 0} (old new : Kept S) (result : Result T StoreFault) → IsTrue old.is_usable → new.is_usable ≡ old.is_usable → new.writes ≡ old.writes
       → Survives (at old) (at new) (λ _. ⊥) → (HasCleanDisk (at new) → Keeps (at old) (at new)) → (HasCleanDisk (at new) → OnOk result (IsTrue (at new).is_open)) → IsSound g old
       → CountsFaults CountsFault old.faults new.faults result
       → Reads g old new result
@@ -102,12 +102,12 @@ module _ {S : Type 0} (g : Ghosts S) where
         let kept = keeps clean in
         whole_still old new usable kept (faithful_before clean (kept.was_open still)).whole still
 
-    pub writes_open : (made : Result (Unit {0}) TableFault) → (HasCleanDisk (at new) → OnOk made (Commits Changes (at old) (at new))) → (result : Result (Unit {0}) JournalFault) → result ≡ call_result made
+    pub writes_open : (made : Result (Unit {0}) TableFault) → (HasCleanDisk (at new) → OnOk made (Commits Changes (at old) (at new))) → (result : Result (Unit {0}) StoreFault) → result ≡ call_result made
         → HasCleanDisk (at new) → OnOk result (IsFaithful g new)
     writes_open (Ok x) makes result is clean = subst (λ r. OnOk r (IsFaithful g new)) (sym is) (wrote_faithful makes clean)
     writes_open (Err fault) makes result is clean = subst (λ r. OnOk r (IsFaithful g new)) (sym is) tt
 
-    module _ (result : Result (Unit {0}) JournalFault) (counts : CountsFaults CountsFault old.faults new.faults result) (written : new.writes ≤ old.writes + 1) (unwritten : OnErr result (new.writes ≡ old.writes)) where
+    module _ (result : Result (Unit {0}) StoreFault) (counts : CountsFaults CountsFault old.faults new.faults result) (written : new.writes ≤ old.writes + 1) (unwritten : OnErr result (new.writes ≡ old.writes)) where
       pub writes : (made : Result (Unit {0}) TableFault) → (HasCleanDisk (at new) → OnOk made (Commits Changes (at old) (at new))) → (HasCleanDisk (at new) → OnErr made (Keeps (at old) (at new))) → result ≡ call_result made
           → Writes g old new later result
       writes (Ok x) makes keeps is = record {

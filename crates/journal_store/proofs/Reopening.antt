@@ -8,7 +8,7 @@ use Rattle.sqlite.specs.Held.{state}
 use Rattle.sqlite.specs.State.{State, HasCleanDisk}
 use Rattle.journal_core.specs.Entries.{EntryMap}
 use Rattle.journal_core.specs.Stores.{CountsFault}
-use Rattle.journal_core.specs.declared.journals.JournalFault.{JournalFault}
+use Rattle.scim_key.specs.declared.stores.StoreFault.{StoreFault}
 use Rattle.sql_tables.specs.Layouts.{format_tree}
 use Rattle.sql_tables.specs.Statements.{Looks}
 use Rattle.sql_tables.proofs.Keeping.{kept_now, laid_still}
@@ -69,7 +69,7 @@ module _ {S : Type 0} (g : Ghosts S) where
       unwritten = writes;
     }
 
-    pub not_reopened : (fault : JournalFault) → CountsFault old.faults new.faults fault → new.writes ≡ old.writes
+    pub not_reopened : (fault : StoreFault) → CountsFault old.faults new.faults fault → new.writes ≡ old.writes
         → OpensAgain g old new (failing fault)
     not_reopened fault counts writes = record {
       found = λ _. tt;

@@ -7,7 +7,7 @@ use Rattle.sqlite.specs.Listing.{understood}
 use Rattle.sqlite.specs.State.{State}
 use Rattle.scim_key.specs.declared.records.Kind.{Kind}
 use Rattle.journal_core.specs.Entries.{EntryMap}
-use Rattle.journal_core.specs.declared.journals.JournalFault.{JournalFault}
+use Rattle.scim_key.specs.declared.stores.StoreFault.{StoreFault}
 use Rattle.sql_tables.specs.Statements.{Ran, plain_mode}
 use Rattle.sql_tables.proofs.Editing.{command_is, edits_by}
 use Rattle.journal_store.specs.Calls.{Writes}
@@ -39,5 +39,5 @@ reset_made old new kind sql params text none laid listed ran =
 
 module _ {S : Type 0} (g : Ghosts S) where
   -- a fault of a call that writes, as the result of another call
-  pub failed_so : {T : Type 0} (U : Type 0) {old new : Kept S} {later : EntryMap} {fault : JournalFault} → Writes g old new later (fault_as T fault) → Writes g old new later (fault_as U fault)
+  pub failed_so : {T : Type 0} (U : Type 0) {old new : Kept S} {later : EntryMap} {fault : StoreFault} → Writes g old new later (fault_as T fault) → Writes g old new later (fault_as U fault)
   failed_so U w = record { was = w.was; done = w.done; same = w.same; honest = w.honest; stop = w.stop; counted = w.counted; written = w.written; unwritten = w.unwritten }

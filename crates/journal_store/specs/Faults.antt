@@ -1,8 +1,8 @@
 -- What the error of a statement means.
 use Rattle.sqlite.specs.declared.error.Error.{Error}
 use Rattle.sql_tables.specs.Faults.{statement_fault as fault_of}
-use Rattle.sql_tables.specs.declared.statements.StatementFault.{StatementFault}
-use Rattle.sql_tables.specs.declared.statements.StatementFault.TheVariants as statement
+use Rattle.scim_key.specs.declared.stores.StoreFault.{StoreFault}
+use Rattle.scim_key.specs.declared.stores.StoreFault.TheVariants as store
 use Rattle.scim_key.specs.declared.names.NameFault.{NameFault}
 use Rattle.scim_key.specs.declared.names.NameFault.TheVariants as name
 use Rattle.journal_store.specs.declared.statements.TableFault.{TableFault}
@@ -13,9 +13,9 @@ abbrev pub HasCause : (damage : Type 0) → TableFault → Type 0
 HasCause damage Damaged = damage
 HasCause damage fault = Unit {0}
 
-abbrev pub table_of : StatementFault → TableFault
-table_of statement.Store = Store
-table_of statement.Memory = Memory
+abbrev pub table_of : StoreFault → TableFault
+table_of store.Store = Store
+table_of store.Memory = Memory
 
 -- out of memory, or the store failed
 abbrev pub statement_fault : Error → TableFault

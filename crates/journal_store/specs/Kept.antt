@@ -6,8 +6,8 @@ use Rattle.sqlite_trees.specs.Tree.{Trees}
 use Rattle.sqlite.specs.Held.{Held, held_code, state}
 use Rattle.sqlite.specs.State.{HasCleanDisk}
 use Rattle.journal_core.specs.Entries.{EntryMap}
-use Rattle.journal_core.specs.declared.journals.JournalFault.{JournalFault}
-use Rattle.journal_core.specs.declared.journals.JournalFault.TheVariants.{Store, Memory}
+use Rattle.scim_key.specs.declared.stores.StoreFault.{StoreFault}
+use Rattle.scim_key.specs.declared.stores.StoreFault.TheVariants.{Store}
 use Rattle.journal_store.specs.Rows.{entries_in}
 use Rattle.journal_store.specs.Connections.{HasNumbers, IsLaid}
 
@@ -26,13 +26,8 @@ kept_code {S} store =
     (λ _. refl)
 
 -- after a reopening that failed, a call returns only a fault of the store
-abbrev pub IsRefused : {S T : Type 0} → Kept S → Result T JournalFault → Type 0
+abbrev pub IsRefused : {S T : Type 0} → Kept S → Result T StoreFault → Type 0
 IsRefused k result = k.is_usable ≡ false → result ≡ Err Store
-
--- a fault that says that the store failed has this cause
-abbrev pub CallFailsFor : (failure : Type 0) → JournalFault → Type 0
-CallFailsFor failure Store = failure
-CallFailsFor failure Memory = Unit {0}
 
 module _ {S : Type 0} (g : Ghosts S) where
   -- the entries that the last commit left

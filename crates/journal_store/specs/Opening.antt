@@ -21,8 +21,8 @@ use Rattle.scim_key.specs.declared.records.Kind.TheVariants.{User, Group}
 use Rattle.source_csv.specs.Records.{row_name, members_of}
 use Rattle.journal_core.specs.Entries.{EntryMap, most_records}
 use Rattle.journal_core.specs.declared.entries.Entry.{Entry}
-use Rattle.journal_core.specs.declared.journals.JournalFault.{JournalFault}
-use Rattle.journal_core.specs.declared.journals.JournalFault.TheVariants as journal
+use Rattle.scim_key.specs.declared.stores.StoreFault.{StoreFault}
+use Rattle.scim_key.specs.declared.stores.StoreFault.TheVariants as store
 use Rattle.journal_store.specs.Tables.{EntryTable, index_of, key_places}
 use Rattle.journal_store.specs.Older.Format.{first_schema}
 use Rattle.journal_store.specs.Format.{format_number, journal_schema}
@@ -89,14 +89,14 @@ open_fault table.Damaged = Damaged
 open_fault table.Memory = Memory
 
 -- the journal's fault for a fault of a statement
-abbrev pub table_fault : TableFault → JournalFault
-table_fault table.Memory = journal.Memory
-table_fault fault = journal.Store
+abbrev pub table_fault : TableFault → StoreFault
+table_fault table.Memory = store.Memory
+table_fault fault = store.Store
 
 -- the journal's fault for a fault of an opening
-abbrev pub journal_fault : JournalOpenFault → JournalFault
-journal_fault Memory = journal.Memory
-journal_fault fault = journal.Store
+abbrev pub journal_fault : JournalOpenFault → StoreFault
+journal_fault Memory = store.Memory
+journal_fault fault = store.Store
 
 -- a fault that reports a newer format, or damage, has that cause
 abbrev pub IsFor : (newer damaged : Type 0) → JournalOpenFault → Type 0

@@ -1,17 +1,16 @@
 //! A journal in SQLite.
-ghost use Rattle.std.specs.Prelude.{◌≡◌, ◌≤◌, ◌+◌, ◌⊎◌, IfErr, IfOk, IsTrue, OnErr, OnOk};
+ghost use Rattle.std.specs.Prelude.{◌≡◌, ◌⊎◌, IfErr, IfOk, IsTrue, OnOk};
 ghost use Rattle.std.specs.Result.{is_ok};
 ghost use Rattle.sqlite.specs.Held.{state};
 ghost use Rattle.sqlite.specs.State.{HasCleanDisk, Survives};
 ghost use Rattle.journal_core.specs.Entries.{CanPutLearnt, CanPutRow, CanPutRows, IsListOf, with_learnt, with_row, with_rows};
 ghost use Rattle.journal_core.specs.Forgetting.{forgotten, learnt_count};
-ghost use Rattle.journal_core.specs.Stores.{CountsFault, CountsFaults, HasRisen};
-ghost use Rattle.journal_core.specs.declared.journals.JournalFault.TheVariants.{Store};
+ghost use Rattle.journal_core.specs.Stores.{HasRisen};
 ghost use Rattle.journal_store.specs.Calls.{Reads, Writes, OpensAgain, call_result};
 ghost use Rattle.journal_store.specs.Connections.{ListsAll, ListsNone};
-ghost use Rattle.sql_tables.specs.Faults.{HasFailed};
+ghost use Rattle.sql_tables.specs.Faults.{FailsFor as CallFailsFor, HasFailed};
 ghost use Rattle.sql_tables.specs.Statements.{LeavesStore};
-ghost use Rattle.journal_store.specs.Kept.{CallFailsFor, IsFaithful, IsHonest, IsRefused, MayHold, kept_entries};
+ghost use Rattle.journal_store.specs.Kept.{IsFaithful, IsHonest, IsRefused, MayHold, kept_entries};
 ghost use Rattle.journal_store.specs.Opening.{Becomes, IsCause, IsUnfit, LeavesStanding, OpenFailsFor, OpeningFails, Stands, journal_fault, table_fault};
 ghost use Rattle.journal_store.specs.Resets.{AreListed};
 
@@ -22,9 +21,10 @@ use crate::opening::{JournalOpenFault, check_tables, open_tables};
 use crate::resets::{learnt_count, reset_all};
 use crate::statements::TableFault;
 use crate::tables::list_entries;
-use journal_core::{Entry, Journal, JournalFault, ReopenJournal};
-use scim_key::{Kind, RecordName, ResourceId, Revision};
+use journal_core::{Entry, Journal, ReopenJournal};
+use scim_key::{Kind, RecordName, ResourceId, Revision, StoreFault};
 use source_csv::Row;
+use sql_tables::{concluded, counted, refusal};
 use sqlite::{Alter, Connection};
 use std::alloc::Global;
 use std::marker::Model;
@@ -62,60 +62,30 @@ impl<S: Alter> Model for SqlJournal<S> {
     }) };
 }
 
-/// Returns the fault, and counts it if it is a fault of the store.
-fn counted(faults: &mut u64, fault: JournalFault) -> JournalFault
-    ensures same { result ≡ fault }
-    ensures counts { CountsFault faults.old faults.new result }
-{
-    if let JournalFault::Store = fault {
-        *faults = faults.saturating_add(1);
-    }
-    fault
-}
-
-/// The fault of every call after a reopening that failed.
-fn refusal(faults: &mut u64) -> JournalFault
-    ensures is { result ≡ Store }
-    ensures counts { CountsFault faults.old faults.new result }
-{
-    counted(faults, JournalFault::Store)
-}
-
 /// The journal's fault for a fault of a statement: an invalid row is a fault of the store.
-fn fault_of(fault: TableFault) -> JournalFault
+fn fault_of(fault: TableFault) -> StoreFault
     ensures { result ≡ table_fault fault }
 {
     match fault {
-        TableFault::Memory => JournalFault::Memory,
-        TableFault::Store => JournalFault::Store,
-        TableFault::Damaged => JournalFault::Store,
+        TableFault::Memory => StoreFault::Memory,
+        TableFault::Store => StoreFault::Store,
+        TableFault::Damaged => StoreFault::Store,
     }
 }
 
-/// The result of a call that writes, for that of its statements. Counts the write, or the fault of the store.
-fn concluded(
-    writes: &mut u64,
-    faults: &mut u64,
-    made: Result<(), TableFault>,
-) -> Result<(), JournalFault>
-    ensures is { result ≡ call_result made }
-    ensures faults { CountsFaults CountsFault faults.old faults.new result }
-    ensures risen { OnOk result (HasRisen writes.old writes.new) }
-    ensures written { writes.new ≤ writes.old + 1 }
-    ensures unwritten { OnErr result (writes.new ≡ writes.old) }
+/// The result of a call that writes, for that of its statements.
+fn call_result(made: Result<(), TableFault>) -> Result<(), StoreFault>
+    ensures { result ≡ call_result made }
 {
     match made {
-        Ok(()) => {
-            *writes = writes.saturating_add(1);
-            Ok(())
-        }
-        Err(fault) => Err(counted(faults, fault_of(fault))),
+        Ok(()) => Ok(()),
+        Err(fault) => Err(fault_of(fault)),
     }
 }
 
 impl<S: Alter> SqlJournal<S> {
     /// The entries of one type, in order of their names.
-    fn list(&mut self, kind: Kind) -> Result<Vec<Entry>, JournalFault>
+    fn list(&mut self, kind: Kind) -> Result<Vec<Entry>, StoreFault>
         ensures tables { IsFaithful S.Store self.new
             → (state S.Store self.new.conn).now.trees ≡ (state S.Store self.old.conn).now.trees }
         ensures all { IsFaithful S.Store self.new
@@ -140,6 +110,23 @@ impl<S: Alter> SqlJournal<S> {
             Err(fault) => Err(counted(&mut self.faults, fault_of(fault))),
         }
     }
+
+    /// Puts these rows, one after another, by one transaction.
+    fn put(&mut self, rows: &[Row]) -> Result<(), StoreFault>
+        requires lawful { IsFaithful S.Store self.old
+            → CanPutRows (kept_entries S.Store self.old) rows.now }
+        ensures puts { Writes S.Store self.old self.new
+            (with_rows (kept_entries S.Store self.old) rows.now) result }
+        ensures open { IsHonest S.Store self.new → OnOk result (IsFaithful S.Store self.new) }
+        ensures counted { OnOk result (HasRisen self.old.writes self.new.writes) }
+        ensures shut { IsRefused self.old result }
+    {
+        if !self.is_usable {
+            return Err(refusal(&mut self.faults));
+        }
+        let made = put_all(self.alloc, &mut self.conn, rows);
+        concluded(&mut self.writes, &mut self.faults, call_result(made))
+    }
 }
 
 impl<S: Alter> Journal for SqlJournal<S> {
@@ -157,7 +144,7 @@ impl<S: Alter> Journal for SqlJournal<S> {
 
     ghost writes = { λ k. k.writes };
 
-    fn load(&mut self) -> Result<Vec<Entry>, JournalFault>
+    fn load(&mut self) -> Result<Vec<Entry>, StoreFault>
         ensures ok { IsFaithful S.Store self.new
             → IfOk result (λ list. IsListOf (kept_entries S.Store self.old) list.items) }
         ensures reads { Reads S.Store self.old self.new result }
@@ -173,7 +160,7 @@ impl<S: Alter> Journal for SqlJournal<S> {
         Ok(all)
     }
 
-    fn put_row(&mut self, row: &Row) -> Result<(), JournalFault>
+    fn put_row(&mut self, row: &Row) -> Result<(), StoreFault>
         requires lawful { IsFaithful S.Store self.old
             → CanPutRow (kept_entries S.Store self.old) row.now }
         ensures puts { Writes S.Store self.old self.new
@@ -182,23 +169,19 @@ impl<S: Alter> Journal for SqlJournal<S> {
         ensures counted { OnOk result (HasRisen self.old.writes self.new.writes) }
         ensures shut { IsRefused self.old result }
     {
-        self.put_rows(slice::from_ref(row))
+        self.put(slice::from_ref(row))
     }
 
-    fn put_rows(&mut self, rows: &[Row]) -> Result<(), JournalFault>
+    fn put_rows(&mut self, rows: Vec<Row>) -> Result<(), StoreFault>
         requires lawful { IsFaithful S.Store self.old
-            → CanPutRows (kept_entries S.Store self.old) rows.now }
+            → CanPutRows (kept_entries S.Store self.old) rows.items }
         ensures puts { Writes S.Store self.old self.new
-            (with_rows (kept_entries S.Store self.old) rows.now) result }
+            (with_rows (kept_entries S.Store self.old) rows.items) result }
         ensures open { IsHonest S.Store self.new → OnOk result (IsFaithful S.Store self.new) }
         ensures counted { OnOk result (HasRisen self.old.writes self.new.writes) }
         ensures shut { IsRefused self.old result }
     {
-        if !self.is_usable {
-            return Err(refusal(&mut self.faults));
-        }
-        let made = put_all(self.alloc, &mut self.conn, rows);
-        concluded(&mut self.writes, &mut self.faults, made)
+        self.put(rows.as_slice())
     }
 
     fn put_learnt(
@@ -206,7 +189,7 @@ impl<S: Alter> Journal for SqlJournal<S> {
         name: &RecordName,
         confirmed: Revision,
         id: &ResourceId,
-    ) -> Result<(), JournalFault>
+    ) -> Result<(), StoreFault>
         requires lawful { IsFaithful S.Store self.old
             → CanPutLearnt (kept_entries S.Store self.old) name.now confirmed }
         ensures puts { Writes S.Store self.old self.new
@@ -219,7 +202,7 @@ impl<S: Alter> Journal for SqlJournal<S> {
             return Err(refusal(&mut self.faults));
         }
         let made = learn(&mut self.conn, name, confirmed, id);
-        concluded(&mut self.writes, &mut self.faults, made)
+        concluded(&mut self.writes, &mut self.faults, call_result(made))
     }
 
     ghost is_so = { λ _ faithful. faithful.clean };
@@ -233,7 +216,7 @@ impl<S: Alter> Journal for SqlJournal<S> {
 
 impl<S: Alter> SqlJournal<S> {
     /// Of how many records a revision is confirmed or the id is known.
-    fn count_learnt(&mut self) -> Result<usize, JournalFault>
+    fn count_learnt(&mut self) -> Result<usize, StoreFault>
         ensures listed { IsFaithful S.Store self.new
             → OnOk result (AreListed (state S.Store self.new.conn).now.trees) }
         ensures count { IsFaithful S.Store self.new
@@ -248,7 +231,7 @@ impl<S: Alter> SqlJournal<S> {
     }
 
     /// Forgets what was learnt of each record.
-    fn forget(&mut self) -> Result<(), JournalFault>
+    fn forget(&mut self) -> Result<(), StoreFault>
         requires listed { IsFaithful S.Store self.old
             → AreListed (state S.Store self.old.conn).now.trees }
         ensures puts { Writes S.Store self.old self.new
@@ -261,12 +244,12 @@ impl<S: Alter> SqlJournal<S> {
             return Err(refusal(&mut self.faults));
         }
         let made = reset_all(&mut self.conn);
-        concluded(&mut self.writes, &mut self.faults, made)
+        concluded(&mut self.writes, &mut self.faults, call_result(made))
     }
 
     /// Forgets the confirmed revision and the id of each record, by one write: of all records or of none.
     /// The rows stay. Returns how many entries that changes.
-    pub fn reset(&mut self) -> Result<usize, JournalFault>
+    pub fn reset(&mut self) -> Result<usize, StoreFault>
         ensures puts { Writes S.Store self.old self.new
             (forgotten (kept_entries S.Store self.old)) result }
         ensures count { IsFaithful S.Store self.new
@@ -284,13 +267,13 @@ impl<S: Alter> SqlJournal<S> {
 // ---- opening and closing
 
 /// The journal's fault for a fault of an opening.
-fn journal_fault(fault: JournalOpenFault) -> JournalFault
+fn journal_fault(fault: JournalOpenFault) -> StoreFault
     ensures { result ≡ journal_fault fault }
 {
     match fault {
-        JournalOpenFault::Memory => JournalFault::Memory,
+        JournalOpenFault::Memory => StoreFault::Memory,
         JournalOpenFault::Store | JournalOpenFault::Damaged | JournalOpenFault::Newer =>
-            JournalFault::Store,
+            StoreFault::Store,
     }
 }
 
@@ -345,7 +328,7 @@ impl<S: Alter> SqlJournal<S> {
 impl<S: Alter> ReopenJournal for SqlJournal<S> {
     /// Checks the tables, their format and each row again, on the same connection. If that fails, every
     /// call except this one and `close` returns a store fault.
-    fn reopen(&mut self) -> Result<(), JournalFault>
+    fn reopen(&mut self) -> Result<(), StoreFault>
         ensures reopens { OpensAgain S.Store self.old self.new result }
         ensures failed { IsHonest S.Store self.new
             → IfErr result

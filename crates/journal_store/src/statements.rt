@@ -1,8 +1,8 @@
 //! Why a statement on the tables gave no result.
 ghost use Rattle.std.specs.Prelude.{◌≡◌};
 
-use scim_key::NameFault;
-use sql_tables::StatementFault;
+use scim_key::{NameFault, StoreFault};
+use sql_tables::statement_fault;
 use sqlite::Error;
 use std::alloc::{AllocError, AllocFailed};
 
@@ -55,9 +55,9 @@ impl From<Error> for TableFault {
     ghost from_gives = { λ error fault. (fault ≡ statement_fault error) × IsOfStatement fault };
 
     fn from(error: Error) -> TableFault {
-        match StatementFault::from(error) {
-            StatementFault::Memory => TableFault::Memory,
-            StatementFault::Store => TableFault::Store,
+        match statement_fault(error) {
+            StoreFault::Memory => TableFault::Memory,
+            StoreFault::Store => TableFault::Store,
         }
     }
 }

@@ -1,11 +1,11 @@
 -- The trace among others that the moves of a connector and of a listener make.
+use Rattle.http_text.specs.Counts.{fresh_writing}
 use Rattle.std.proofs.Common.{ℕ, List, [], ◌∷◌, ◌++◌, Option, Some, None, refl, sym, subst, inl, inr}
 use Rattle.std.proofs.lemmas.List.{append-nil}
 use Rattle.scim_resource.specs.Rows.{StoredRecord}
 use Rattle.scim_message.specs.declared.messages.Request.{Request}
 use Rattle.provider_core.specs.declared.registry.Registry.{Ghosts as Registries}
 use Rattle.scim_client.specs.Requests.{text_of}
-use Rattle.connection.specs.Turns.{fresh_writing}
 use Rattle.journal_core.specs.declared.journals.Journal.{Ghosts as Journals}
 use Rattle.connector_core.specs.Changing.{history_after, judged, taking}
 use Rattle.connector_core.specs.Maps.{BookMap}

@@ -5,7 +5,7 @@ use Rattle.std.specs.Io.KnownBytes.{Appends}
 use Rattle.scim_message.specs.declared.messages.Answer.{Answer}
 use Rattle.scim_message.specs.declared.messages.Request.{Request}
 use Rattle.provider_core.specs.declared.registry.Registry.{Ghosts as Registries}
-use Rattle.http_text.specs.Counts.{Reading, Writing}
+use Rattle.http_text.specs.Counts.{Reading, Writing, fresh_reading, fresh_writing}
 use Rattle.http_text.specs.Forms.{request_form}
 use Rattle.http_text.specs.Requests.{TakesMessage}
 use Rattle.http_text.specs.Responses.{TakesResponse}
@@ -17,7 +17,6 @@ use Rattle.scim_client.specs.Requests.{text_of}
 use Rattle.connection.specs.declared.answering.Served.{Served}
 use Rattle.connection.specs.declared.answering.Served.TheVariants.{Answered, NoRequest, Lost}
 use Rattle.connection.specs.Serving.{IsSent, SendsReply, reply_text}
-use Rattle.connection.specs.Turns.{fresh_reading, fresh_writing}
 use Rattle.journal_core.specs.declared.journals.Journal.{Ghosts as Journals}
 use Rattle.connector_core.specs.Asking.{asking}
 use Rattle.connector_core.specs.Changing.{history_after, judged, taking}

@@ -4,7 +4,7 @@ use Rattle.std.specs.List.{AllByRecursion}
 use Rattle.scim_key.specs.declared.records.RecordName.{RecordName}
 use Rattle.scim_message.specs.declared.messages.Answer.{Answer}
 use Rattle.scim_message.specs.declared.messages.Request.{Request}
-use Rattle.http_text.specs.Counts.{Writing}
+use Rattle.http_text.specs.Counts.{Writing, fresh_reading, fresh_writing}
 use Rattle.scim_client.specs.Exchanges.{IsReply, Starts, SpellsSent}
 use Rattle.scim_client.specs.Requests.{text_of}
 use Rattle.scim_client.specs.declared.answers.AnswerFault.TheVariants.{NotOneResponse, NotJson, WrongShape}
@@ -12,7 +12,6 @@ use Rattle.scim_client.specs.declared.answers.AnswerFault.TheVariants as answers
 use Rattle.scim_client.specs.declared.exchange.ExchangeFault.{ExchangeFault}
 use Rattle.scim_client.specs.declared.exchange.ExchangeFault.TheVariants.{Unsent, EndedEarly, ReadFailed, OutOfMemory, TurnsExhausted, NoAnswer}
 use Rattle.scim_client.proofs.ExchangeLemmas.{hindered_known, reads_none, sends_fault, sends_reply}
-use Rattle.connection.specs.Turns.{fresh_reading, fresh_writing}
 use Rattle.journal_core.specs.declared.journals.Journal.{Ghosts as Journals}
 use Rattle.connector_core.specs.Asking.{asking}
 use Rattle.connector_core.specs.Maps.{BookMap, book_of}

@@ -5,7 +5,8 @@ use Rattle.scim_resource.specs.Rows.{StoredRecord}
 use Rattle.scim_message.specs.declared.messages.Request.{Request}
 use Rattle.provider_core.specs.declared.registry.Registry.{Ghosts as Registries}
 use Rattle.scim_client.specs.Requests.{text_of}
-use Rattle.connection.specs.Turns.{AreTurns, Turn, all_opened, fresh_writing, taken, unopened}
+use Rattle.connection.specs.Turns.{AreTurns, Turn, all_opened, taken, unopened}
+use Rattle.http_text.specs.Counts.{fresh_writing}
 use Rattle.journal_core.specs.declared.journals.Journal.{Ghosts as Journals}
 use Rattle.connector_core.specs.Changing.{history_after, judged, taking}
 use Rattle.connector_core.specs.Maps.{BookMap}

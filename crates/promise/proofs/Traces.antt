@@ -1,4 +1,5 @@
 -- Each step of a trace over bytes is at most one step of a trace of requests and answers, since what was said is read as it was said.
+use Rattle.http_text.specs.Counts.{fresh_reading}
 use Rattle.std.proofs.Common.{arith, ◌≡◌, ℕ, Bool, false, List, [], ◌∷◌, ◌++◌, Option, Some, None, Result, Ok, Err, refl, ap, sym, subst, ◌∙◌, inl, inr}
 use Rattle.std.specs.FinMap.{keys}
 use Rattle.std.specs.Prelude.{◌⊎◌, IfOk}
@@ -30,7 +31,6 @@ use Rattle.scim_client.specs.Requests.{text_of}
 use Rattle.scim_client.specs.Spelling.{SpellsRequest}
 use Rattle.connection.specs.Reactions.{reaction_to}
 use Rattle.connection.specs.Serving.{AnswersFault, AnswersMeaning, AnswersMessage, AnswersRequest, GivesUp, HasReply, IsAfter, IsUnharmed, LeavesRows, Replies, RepliesTo, reply_text}
-use Rattle.connection.specs.Turns.{fresh_reading}
 use Rattle.journal_core.specs.Entries.{EntryMap}
 use Rattle.journal_core.specs.declared.journals.Journal.{Ghosts as Journals}
 use Rattle.connector_core.specs.Asking.{asking}

@@ -3,6 +3,7 @@ pub mod Searches
 pub mod Gathering
 pub mod Listing
 pub mod Outcomes
+pub mod Changes
 pub mod Stories
 pub mod Stores
 pub mod Calls

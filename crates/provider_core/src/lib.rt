@@ -23,7 +23,7 @@ pub use memory::MemoryRegistry;
 pub use outcomes::MOST_RESOURCES;
 pub use pending::{Change, Pending};
 pub use provider::{Provider, ProviderFault};
-pub use registry::{ROWS_AT_ONCE, Registry, RegistryFault};
+pub use registry::{ROWS_AT_ONCE, Registry};
 pub use reopening::Reopen;
 pub use scim_message::{Answer, ErrorResponse, ListResponse, Request, Resources};
 pub use searching::MOST_LISTED;

@@ -1,8 +1,8 @@
 //! A registry in memory.
 ghost use Rattle.std.specs.Prelude.{◌≡◌, ◌<◌, ◌-◌, [], drop, take, slice_get, refl, IfOk};
 
-use crate::registry::{Registry, RegistryFault};
-use scim_key::{RecordName, ResourceId};
+use crate::registry::Registry;
+use scim_key::{RecordName, ResourceId, StoreFault};
 use scim_resource::Stored;
 use std::alloc::{AllocError, Global};
 use std::collections::BTreeMap;
@@ -71,37 +71,37 @@ impl Registry for MemoryRegistry {
 
     ghost writes = { λ r. r.writes };
 
-    fn count(&mut self) -> Result<u32, RegistryFault> {
+    fn count(&mut self) -> Result<u32, StoreFault> {
         Ok(self.rows.len() as u32)
     }
 
-    fn by_key(&mut self, name: &RecordName) -> Result<Option<Stored>, RegistryFault> {
+    fn by_key(&mut self, name: &RecordName) -> Result<Option<Stored>, StoreFault> {
         match self.numbers.get(name) {
             Some(number) => Ok(copy_at(self.rows.as_slice(), *number)?),
             None => Ok(None),
         }
     }
 
-    fn count_if_free(&mut self, name: &RecordName) -> Result<Option<u32>, RegistryFault> {
+    fn count_if_free(&mut self, name: &RecordName) -> Result<Option<u32>, StoreFault> {
         match self.numbers.get(name) {
             Some(_) => Ok(None),
             None => Ok(Some(self.rows.len() as u32)),
         }
     }
 
-    fn by_id(&mut self, id: &ResourceId) -> Result<Option<Stored>, RegistryFault> {
+    fn by_id(&mut self, id: &ResourceId) -> Result<Option<Stored>, StoreFault> {
         match id.number() {
             Some(number) => Ok(copy_at(self.rows.as_slice(), number)?),
             None => Ok(None),
         }
     }
 
-    fn scan(&mut self, after: u32, limit: usize) -> Result<Vec<Stored>, RegistryFault> {
+    fn scan(&mut self, after: u32, limit: usize) -> Result<Vec<Stored>, StoreFault> {
         let alloc = *self.rows.allocator();
         Ok(part(self.rows.as_slice(), after, limit).to_vec(alloc)?)
     }
 
-    fn insert(&mut self, row: Stored) -> Result<(), RegistryFault> {
+    fn insert(&mut self, row: Stored) -> Result<(), StoreFault> {
         let name = row.content().name(*self.rows.allocator())?;
         self.rows.reserve(1)?;
         self.numbers.insert(name, row.number())?;
@@ -110,7 +110,7 @@ impl Registry for MemoryRegistry {
         Ok(())
     }
 
-    fn update(&mut self, row: &Stored) -> Result<(), RegistryFault> {
+    fn update(&mut self, row: &Stored) -> Result<(), StoreFault> {
         let place = row.number() as usize - 1;
         self.rows[place] = row.clone()?;
         self.writes = self.writes.saturating_add(1);

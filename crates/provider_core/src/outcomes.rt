@@ -4,10 +4,10 @@ ghost use Rattle.scim_resource.specs.Contents.{content_kind, content_name};
 ghost use Rattle.provider_core.specs.Rows.{same_kind, same_name};
 ghost use Rattle.provider_core.specs.Outcomes.{refused, creating, retrieving, replacing, not_modified};
 
-use crate::pending::{Change, Pending};
+use crate::pending::Pending;
 use scim_key::{Kind, LAST_NUMBER};
 use scim_message::{Answer, ErrorResponse, Refusal};
-use scim_resource::{Content, LAST_VERSION, Shown, Stored};
+use scim_resource::{Content, LAST_VERSION, RowVersion, Shown, Stored};
 use scim_version::{Condition, EntityTag};
 use std::alloc::{AllocError, Global};
 
@@ -19,20 +19,20 @@ pub(crate) fn refusal(alloc: Global, refusal: Refusal) -> Result<Pending, AllocE
     ensures { IfOk result (λ pending. pending ≡ refused refusal) }
 {
     Ok(Pending {
-        change: Change::Unchanged,
+        row: None,
         answer: Answer::Error(ErrorResponse::of(alloc, refusal)?),
     })
 }
 
 /// The pending outcome if a content becomes a new row after `count` others.
-pub(crate) fn insertion(alloc: Global, count: u32, content: &Content) -> Result<Pending, AllocError>
+pub(crate) fn insertion(alloc: Global, count: u32, content: Content) -> Result<Pending, AllocError>
     requires { count < MOST_RESOURCES }
-    ensures { IfOk result (λ pending. pending ≡ creating None false count content.now) }
+    ensures { IfOk result (λ pending. pending ≡ creating None false count content) }
 {
-    let row = Stored::new(count + 1, 1, content.clone()?);
-    let shown = Shown::of(alloc, &row)?;
+    let row = RowVersion::new(count + 1, 1);
+    let shown = Shown::with_content(alloc, &row, content)?;
     Ok(Pending {
-        change: Change::Insert(row),
+        row: Some(row),
         answer: Answer::Created(shown),
     })
 }
@@ -55,15 +55,15 @@ fn keeps_name(row: &Stored, content: &Content) -> bool
 pub(crate) fn replacement(
     alloc: Global,
     row: &Stored,
-    content: &Content,
+    content: Content,
     if_match: &Condition,
     if_none_match: &Condition,
 ) -> Result<Pending, AllocError>
     ensures { IfOk result
-        (λ pending. pending ≡ replacing (Some row.now) content.now if_match.now if_none_match.now) }
+        (λ pending. pending ≡ replacing (Some row.now) content if_match.now if_none_match.now) }
 {
     let version = row.version();
-    if !keeps_name(row, content) {
+    if !keeps_name(row, &content) {
         return refusal(alloc, Refusal::NameFixed);
     }
     if version >= LAST_VERSION {
@@ -72,10 +72,10 @@ pub(crate) fn replacement(
     if !(if_match.holds_match(Some(version)) && if_none_match.holds_none_match(Some(version))) {
         return refusal(alloc, Refusal::OtherVersion);
     }
-    let next = Stored::new(row.number(), version + 1, content.clone()?);
-    let shown = Shown::of(alloc, &next)?;
+    let next = RowVersion::new(row.number(), version + 1);
+    let shown = Shown::with_content(alloc, &next, content)?;
     Ok(Pending {
-        change: Change::Update(next),
+        row: Some(next),
         answer: Answer::Replaced(shown),
     })
 }
@@ -109,8 +109,5 @@ pub(crate) fn retrieval(
     } else {
         unmodified(alloc, row)?
     };
-    Ok(Pending {
-        change: Change::Unchanged,
-        answer,
-    })
+    Ok(Pending { row: None, answer })
 }

@@ -15,11 +15,11 @@ use crate::listing::list;
 use crate::meanwhile::{Meanwhile, Nothing};
 use crate::outcomes::{MOST_RESOURCES, insertion, is_of_kind, refusal, replacement, retrieval};
 use crate::pending::{Change, Pending};
-use crate::registry::{ROWS_AT_ONCE, Registry, RegistryFault};
+use crate::registry::{ROWS_AT_ONCE, Registry};
 use crate::reopening::Reopen;
 use crate::searching::{Gathered, first_place, page_size, single_key};
 use scim_filter::Filter;
-use scim_key::{Kind, RecordName, ResourceId};
+use scim_key::{Kind, RecordName, ResourceId, StoreFault};
 use scim_message::{Answer, Refusal, Request};
 use scim_resource::{Content, Stored};
 use scim_version::Condition;
@@ -44,15 +44,15 @@ impl From<AllocError> for ProviderFault {
     }
 }
 
-impl From<RegistryFault> for ProviderFault {
+impl From<StoreFault> for ProviderFault {
     ghost use Rattle.provider_core.specs.Stores.{provider_fault};
 
     ghost from_gives = { λ from fault. fault ≡ provider_fault from };
 
-    fn from(fault: RegistryFault) -> ProviderFault {
+    fn from(fault: StoreFault) -> ProviderFault {
         match fault {
-            RegistryFault::Store => ProviderFault::Store,
-            RegistryFault::Memory => ProviderFault::Memory,
+            StoreFault::Store => ProviderFault::Store,
+            StoreFault::Memory => ProviderFault::Memory,
         }
     }
 }
@@ -107,24 +107,8 @@ impl<R: Registry> Provider<R> {
             IfOk result (λ pending. pending ≡ outcome (R.rows self.old) request.now) }
         ensures reads { Reads R.Registry CountsProviderFault self.old self.new result }
     {
-        self.prepare_meanwhile(alloc, request, &mut Nothing)
-    }
-
-    /// Forms the answer as `prepare` does. If it looks through all rows, something else goes on after each page of
-    /// rows.
-    pub fn prepare_meanwhile<M: Meanwhile>(
-        &mut self,
-        alloc: Global,
-        request: &Request,
-        meanwhile: &mut M,
-    ) -> Result<Pending, ProviderFault>
-        ensures ok { R.is_faithful self.new →
-            IfOk result (λ pending. pending ≡ outcome (R.rows self.old) request.now) }
-        ensures reads { Reads R.Registry CountsProviderFault self.old self.new result }
-        ensures keeps { M.keeps meanwhile.old meanwhile.new }
-    {
         match request {
-            Request::Create { content } => self.prepare_create(alloc, content),
+            Request::Create { content } => self.prepare_create(alloc, content.clone()?),
             Request::Retrieve {
                 kind,
                 id,
@@ -136,20 +120,56 @@ impl<R: Registry> Provider<R> {
                 filter,
                 start,
                 count,
-            } => self.prepare_search(alloc, *kind, filter, *start, *count, meanwhile),
+            } => self.prepare_search(alloc, *kind, filter, *start, *count, &mut Nothing),
             Request::Replace {
                 id,
                 content,
                 if_match,
                 if_none_match,
-            } => self.prepare_replace(alloc, id, content, if_match, if_none_match),
+            } => self.prepare_replace(alloc, id, content.clone()?, if_match, if_none_match),
         }
     }
 
-    fn prepare_create(&mut self, alloc: Global, content: &Content) -> Result<Pending, ProviderFault>
+    /// Forms the answer as `prepare` does, without a copy of the content. If it looks through all rows, something
+    /// else goes on after each page of rows.
+    pub fn prepare_meanwhile<M: Meanwhile>(
+        &mut self,
+        alloc: Global,
+        request: Request,
+        meanwhile: &mut M,
+    ) -> Result<Pending, ProviderFault>
+        ensures ok { R.is_faithful self.new →
+            IfOk result (λ pending. pending ≡ outcome (R.rows self.old) request) }
+        ensures reads { Reads R.Registry CountsProviderFault self.old self.new result }
+        ensures keeps { M.keeps meanwhile.old meanwhile.new }
+    {
+        match request {
+            Request::Create { content } => self.prepare_create(alloc, content),
+            Request::Retrieve {
+                kind,
+                id,
+                if_match,
+                if_none_match,
+            } => self.prepare_retrieve(alloc, kind, &id, &if_match, &if_none_match),
+            Request::Search {
+                kind,
+                filter,
+                start,
+                count,
+            } => self.prepare_search(alloc, kind, &filter, start, count, meanwhile),
+            Request::Replace {
+                id,
+                content,
+                if_match,
+                if_none_match,
+            } => self.prepare_replace(alloc, &id, content, &if_match, &if_none_match),
+        }
+    }
+
+    fn prepare_create(&mut self, alloc: Global, content: Content) -> Result<Pending, ProviderFault>
         ensures ok { R.is_faithful self.new
             → IfOk result (λ pending. pending
-            ≡ outcome (R.rows self.old) (Request.Create content.now)) }
+            ≡ outcome (R.rows self.old) (Request.Create content)) }
         ensures reads { Reads R.Registry CountsProviderFault self.old self.new result }
     {
         let name = content.name(alloc)?;
@@ -327,20 +347,29 @@ impl<R: Registry> Provider<R> {
         &mut self,
         alloc: Global,
         id: &ResourceId,
-        content: &Content,
+        content: Content,
         if_match: &Condition,
         if_none_match: &Condition,
     ) -> Result<Pending, ProviderFault>
         ensures ok { R.is_faithful self.new
             → IfOk result (λ pending. pending
             ≡ outcome (R.rows self.old)
-            (Request.Replace id.now content.now if_match.now if_none_match.now)) }
+            (Request.Replace id.now content if_match.now if_none_match.now)) }
         ensures reads { Reads R.Registry CountsProviderFault self.old self.new result }
     {
         match self.resource(content.kind(), id)? {
             Some(row) => Ok(replacement(alloc, &row, content, if_match, if_none_match)?),
             None => Ok(refusal(alloc, Refusal::NoSuchResource)?),
         }
+    }
+
+    /// The row of a record, if there is one.
+    pub fn row_of(&mut self, name: &RecordName) -> Result<Option<Stored>, ProviderFault>
+        ensures row { R.is_faithful self.new
+            → IfOk result (λ row. row ≡ row_named name.now (R.rows self.old)) }
+        ensures reads { Reads R.Registry CountsProviderFault self.old self.new result }
+    {
+        Ok(self.registry.by_key(name)?)
     }
 
     /// Makes a prepared change on the current rows, and gives the answer. It writes at most once. If memory
@@ -353,12 +382,24 @@ impl<R: Registry> Provider<R> {
         ensures open { R.is_honest self.new → R.is_faithful self.old →
             OnOk result (R.is_faithful self.new) }
     {
-        self.make(pending.change)?;
-        Ok(pending.answer)
+        let change = pending.change()?;
+        self.make(change)?;
+        Ok(pending.into_answer())
+    }
+
+    /// Makes a prepared change as `commit` does, without a copy of the content. It gives no answer.
+    pub fn commit_change(&mut self, pending: Pending) -> Result<(), ProviderFault>
+        requires { R.is_faithful self.old → IsOutcome (R.rows self.old) pending }
+        ensures writes { Writes R.Registry CountsProviderFault self.old self.new
+            (changed_rows (R.rows self.old) pending.change) result }
+        ensures open { R.is_honest self.new → R.is_faithful self.old →
+            OnOk result (R.is_faithful self.new) }
+    {
+        Ok(self.make(pending.into_change())?)
     }
 
     /// Makes a change on the current rows.
-    fn make(&mut self, change: Change) -> Result<(), RegistryFault>
+    fn make(&mut self, change: Change) -> Result<(), StoreFault>
         requires { R.is_faithful self.old → IsChange (R.rows self.old) change }
         ensures writes { Writes R.Registry CountsFault self.old self.new
             (changed_rows (R.rows self.old) change) result }
@@ -373,7 +414,7 @@ impl<R: Registry> Provider<R> {
     }
 
     /// Adds a row, and keeps its place.
-    fn insert(&mut self, row: Stored) -> Result<(), RegistryFault>
+    fn insert(&mut self, row: Stored) -> Result<(), StoreFault>
         requires next { R.is_faithful self.old → row.number ≡ length (R.rows self.old) + 1 }
         requires free { R.is_faithful self.old →
             row_named (content_name row.content) (R.rows self.old) ≡ None }

@@ -5,42 +5,11 @@ ghost use Rattle.scim_resource.specs.Contents.{content_name};
 ghost use Rattle.provider_core.specs.Rows.{count_if_free, row_named, row_with_id, page_after, with_row, IsNumberedFrom, AreNamedApart};
 ghost use Rattle.provider_core.specs.Stores.{HasRisen, CountsFault, OnlyReads, WritesOnce, HoldsNumber};
 
-use scim_key::{RecordName, ResourceId};
+use scim_key::{RecordName, ResourceId, StoreFault};
 use scim_resource::Stored;
-use std::alloc::{AllocError, AllocFailed};
-use thiserror::Error;
 
 /// The most rows that one call of a registry gives.
 pub const ROWS_AT_ONCE: u32 = 200;
-
-/// Why a call of a registry failed. The rows are unchanged.
-#[derive(Clone, Copy, Debug, PartialEq, Eq, Error)]
-pub enum RegistryFault {
-    #[error("store")]
-    Store,
-    #[error("memory")]
-    Memory,
-}
-
-impl From<AllocError> for RegistryFault {
-    ghost use Rattle.provider_core.specs.declared.registry.RegistryFault.TheVariants.{Memory};
-
-    ghost from_gives = { λ _ fault. fault ≡ Memory };
-
-    fn from(_: AllocError) -> RegistryFault {
-        RegistryFault::Memory
-    }
-}
-
-impl<T: Drop> From<AllocFailed<T>> for RegistryFault {
-    ghost use Rattle.provider_core.specs.declared.registry.RegistryFault.TheVariants.{Memory};
-
-    ghost from_gives = { λ _ fault. fault ≡ Memory };
-
-    fn from(_: AllocFailed<T>) -> RegistryFault {
-        RegistryFault::Memory
-    }
-}
 
 /// The rows of a provider in order of creation, numbered from 1, at most one for each record.
 ///
@@ -63,13 +32,13 @@ pub trait Registry {
     ghost writes: { Self → ℕ };
 
     /// How many rows there are.
-    fn count(&mut self) -> Result<u32, RegistryFault>
+    fn count(&mut self) -> Result<u32, StoreFault>
         ensures ok { is_faithful self.new → IfOk result (λ n. n ≡ length (rows self.old)) }
         ensures reads { OnlyReads rows is_faithful is_honest may_hold faults writes CountsFault
             self.old self.new result };
 
     /// The row of a record, if there is one.
-    fn by_key(&mut self, name: &RecordName) -> Result<Option<Stored>, RegistryFault>
+    fn by_key(&mut self, name: &RecordName) -> Result<Option<Stored>, StoreFault>
         ensures ok { is_faithful self.new
             → IfOk result (λ row. row ≡ row_named name.now (rows self.old)) }
         ensures apart { is_faithful self.new → AreNamedApart (rows self.old) }
@@ -77,21 +46,21 @@ pub trait Registry {
             self.old self.new result };
 
     /// How many rows there are, if none of them is of this record.
-    fn count_if_free(&mut self, name: &RecordName) -> Result<Option<u32>, RegistryFault>
+    fn count_if_free(&mut self, name: &RecordName) -> Result<Option<u32>, StoreFault>
         ensures ok { is_faithful self.new
             → IfOk result (λ count. count ≡ count_if_free name.now (rows self.old)) }
         ensures reads { OnlyReads rows is_faithful is_honest may_hold faults writes CountsFault
             self.old self.new result };
 
     /// The row with this id, if there is one.
-    fn by_id(&mut self, id: &ResourceId) -> Result<Option<Stored>, RegistryFault>
+    fn by_id(&mut self, id: &ResourceId) -> Result<Option<Stored>, StoreFault>
         ensures ok { is_faithful self.new
             → IfOk result (λ row. row ≡ row_with_id id.now (rows self.old)) }
         ensures reads { OnlyReads rows is_faithful is_honest may_hold faults writes CountsFault
             self.old self.new result };
 
     /// At most `limit` rows, in order, from the first with a number above `after`.
-    fn scan(&mut self, after: u32, limit: usize) -> Result<Vec<Stored>, RegistryFault>
+    fn scan(&mut self, after: u32, limit: usize) -> Result<Vec<Stored>, StoreFault>
         requires few { limit ≤ ROWS_AT_ONCE }
         ensures ok { is_faithful self.new
             → IfOk result (λ page. page.items ≡ page_after after limit (rows self.old)) }
@@ -101,7 +70,7 @@ pub trait Registry {
             self.old self.new result };
 
     /// Adds a row, with the next number and a free name.
-    fn insert(&mut self, row: Stored) -> Result<(), RegistryFault>
+    fn insert(&mut self, row: Stored) -> Result<(), StoreFault>
         requires next { is_faithful self.old → row.number ≡ length (rows self.old) + 1 }
         requires free { is_faithful self.old
             → row_named (content_name row.content) (rows self.old) ≡ None }
@@ -111,7 +80,7 @@ pub trait Registry {
         ensures counted { OnOk result (HasRisen (writes self.old) (writes self.new)) };
 
     /// Replaces the row with the same number, which must have the same name.
-    fn update(&mut self, row: &Stored) -> Result<(), RegistryFault>
+    fn update(&mut self, row: &Stored) -> Result<(), StoreFault>
         requires there { is_faithful self.old → HoldsNumber (rows self.old) row.now }
         ensures replaces { WritesOnce rows is_faithful is_honest may_hold faults writes CountsFault
             self.old self.new (with_row row.now (rows self.old)) result }

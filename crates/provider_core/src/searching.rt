@@ -9,7 +9,7 @@ ghost use Rattle.provider_core.specs.Gathering.{Adds, GoesThrough, IsPlace, gath
 ghost use Rattle.provider_core.specs.Outcomes.{replied};
 
 use crate::outcomes::is_of_kind;
-use crate::pending::{Change, Pending};
+use crate::pending::Pending;
 use crate::registry::ROWS_AT_ONCE;
 use scim_filter::Filter;
 use scim_key::{Kind, RecordName};
@@ -150,7 +150,7 @@ pub(crate) fn listed(total: u64, first: u64, page: Vec<Shown>) -> Pending
         resources: Resources::from_vec(page),
     };
     Pending {
-        change: Change::Unchanged,
+        row: None,
         answer: Answer::List(list),
     }
 }

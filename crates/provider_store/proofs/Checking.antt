@@ -13,8 +13,8 @@ use Rattle.sqlite_trees.proofs.ListLemmas.{filter_same, all_of}
 use Rattle.scim_resource.specs.Contents.{content_name}
 use Rattle.scim_resource.specs.Rows.{StoredRecord}
 use Rattle.provider_core.specs.Rows.{IsNumberedFrom, AreNamedApart, is_named, row_named}
-use Rattle.provider_core.specs.declared.registry.RegistryFault.{RegistryFault}
-use Rattle.provider_core.specs.declared.registry.RegistryFault.TheVariants as registry
+use Rattle.scim_key.specs.declared.stores.StoreFault.{StoreFault}
+use Rattle.scim_key.specs.declared.stores.StoreFault.TheVariants as store
 use Rattle.provider_core.proofs.RowLaws.{same_name-eq, find-passes}
 use Rattle.provider_core.proofs.MemoryLaws.{found-at, apart-none}
 use Rattle.provider_core.proofs.TableLaws.{at_push}
@@ -22,7 +22,7 @@ use Rattle.scim_key.specs.declared.records.RecordName.{RecordName}
 use Rattle.provider_store.specs.Format.{outside_text}
 use Rattle.provider_store.specs.Rows.{shown_row, IsRowOf, number_at, Holds}
 use Rattle.provider_store.specs.Connections.{IsLaid, FindsName, resources}
-use Rattle.provider_store.specs.Faults.{FailsFor}
+use Rattle.sql_tables.specs.Faults.{FailsFor}
 use Rattle.provider_store.specs.Lawful.{AreLawfulTo, IsLawfulAt, is_outside, IsOutside, AreWithin}
 use Rattle.provider_store.specs.Opening.{IsFor, IsAlone, IsNewer, IsNotLaid, IsSpoilt, IsDamaged, IsCause, IsOfRows, OpenFailsFor, open_fault}
 use Rattle.provider_store.specs.declared.opening.RegistryOpenFault.{RegistryOpenFault}
@@ -75,9 +75,9 @@ told_any p (Damaged n) = p
 told_any p Newer = p
 told_any p Memory = tt
 
-pub no_cause : (P : Type 0) (D : ℕ → Type 0) (fault : RegistryFault) → IsFor P D (open_fault fault)
-no_cause P D registry.Store = tt
-no_cause P D registry.Memory = tt
+pub no_cause : (P : Type 0) (D : ℕ → Type 0) (fault : StoreFault) → IsFor P D (open_fault fault)
+no_cause P D store.Store = tt
+no_cause P D store.Memory = tt
 
 -- ---- a store that fails
 
@@ -94,9 +94,9 @@ opens_so P it Newer = tt
 opens_so P it Memory = tt
 
 -- a fault of a look-up fails as it failed there
-pub told_fails : (P : Type 0) (fault : RegistryFault) → FailsFor P fault → OpenFailsFor P (open_fault fault)
-told_fails P registry.Store it = it
-told_fails P registry.Memory it = tt
+pub told_fails : (P : Type 0) (fault : StoreFault) → FailsFor P fault → OpenFailsFor P (open_fault fault)
+told_fails P store.Store it = it
+told_fails P store.Memory it = tt
 
 -- what was read of rows is no fault of the store
 pub rows_fail : (P : Type 0) (fault : RegistryOpenFault) → IsOfRows fault → OpenFailsFor P fault
@@ -109,7 +109,7 @@ pub opens_of : {T : Type 0} (P Q : Type 0) → (P → Q) → (r : Result T Regis
 opens_of P Q h (Ok x) fault is it = tt
 opens_of P Q h (Err given) fault is it = subst (OpenFailsFor Q) (sym is) (opens_by P Q h fault it)
 
-pub fails_of : {T : Type 0} (P : Type 0) (r : Result T RegistryOpenFault) (fault : RegistryFault) → IsErrAnd r (λ given. given ≡ open_fault fault) → FailsFor P fault → IfErr r (OpenFailsFor P)
+pub fails_of : {T : Type 0} (P : Type 0) (r : Result T RegistryOpenFault) (fault : StoreFault) → IsErrAnd r (λ given. given ≡ open_fault fault) → FailsFor P fault → IfErr r (OpenFailsFor P)
 fails_of P (Ok x) fault is it = tt
 fails_of P (Err given) fault is it = subst (OpenFailsFor P) (sym is) (told_fails P fault it)
 

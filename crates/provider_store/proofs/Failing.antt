@@ -1,11 +1,8 @@
 -- Why a call fails although there is memory.
 use Rattle.std.proofs.Common.{◌⊎◌, ℕ, Result, Ok, Err, IfOk, IfErr, sym, subst, inl, inr}
-use Rattle.sql_tables.specs.Faults.{FailsFor as FailedFor}
-use Rattle.sql_tables.specs.declared.statements.StatementFault.{StatementFault}
-use Rattle.sql_tables.specs.declared.statements.StatementFault.TheVariants as statement
-use Rattle.provider_core.specs.declared.registry.RegistryFault.{RegistryFault}
-use Rattle.provider_core.specs.declared.registry.RegistryFault.TheVariants as registry
-use Rattle.provider_store.specs.Faults.{FailsFor, registry_of}
+use Rattle.sql_tables.specs.Faults.{FailsFor}
+use Rattle.sql_tables.proofs.Failing.{fails_by, fails_so}
+use Rattle.scim_key.specs.declared.stores.StoreFault.{StoreFault}
 use Rattle.provider_store.specs.Lookups.{IsFaultOf}
 use Rattle.provider_store.specs.Opening.{IsFor, OpenFailsFor, registry_fault}
 use Rattle.provider_store.specs.declared.opening.RegistryOpenFault.{RegistryOpenFault}
@@ -13,20 +10,7 @@ use Rattle.provider_store.specs.declared.opening.RegistryOpenFault.TheVariants a
 use Rattle.provider_store.specs.declared.tables.Found.{Found}
 use Rattle.provider_store.specs.declared.tables.Found.TheVariants.{Nothing, Damaged, There}
 
-pub fails_by : (P Q : Type 0) → (P → Q) → (fault : RegistryFault) → FailsFor P fault → FailsFor Q fault
-fails_by P Q h registry.Store it = h it
-fails_by P Q h registry.Memory it = tt
-
-pub fails_so : (P : Type 0) → P → (fault : RegistryFault) → FailsFor P fault
-fails_so P it registry.Store = it
-fails_so P it registry.Memory = tt
-
--- a fault of a statement has the cause that it had there
-pub fails_as : (P : Type 0) (fault : StatementFault) → FailedFor P fault → FailsFor P (registry_of fault)
-fails_as P statement.Store it = it
-fails_as P statement.Memory it = tt
-
-pub look_up_failed : (P : Type 0) (Q : Found → Type 0) (found : Result Found RegistryFault) (fault : RegistryFault) → IsFaultOf found fault → IfOk found Q → IfErr found (FailsFor P) → FailsFor (P ⊎ Q Damaged) fault
+pub look_up_failed : (P : Type 0) (Q : Found → Type 0) (found : Result Found StoreFault) (fault : StoreFault) → IsFaultOf found fault → IfOk found Q → IfErr found (FailsFor P) → FailsFor (P ⊎ Q Damaged) fault
 look_up_failed P Q (Ok Damaged) fault is shows fails = fails_so (P ⊎ Q Damaged) (inr shows) fault
 look_up_failed P Q (Ok Nothing) fault is shows fails = absurd is
 look_up_failed P Q (Ok (There s)) fault is shows fails = absurd is

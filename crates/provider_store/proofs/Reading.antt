@@ -6,7 +6,7 @@ use Rattle.sqlite.specs.Held.{Held, state}
 use Rattle.sqlite.specs.State.{State, HasCleanDisk, Survives}
 use Rattle.scim_resource.specs.Rows.{StoredRecord}
 use Rattle.provider_core.specs.Stores.{CountsFault, CountsFaults}
-use Rattle.provider_core.specs.declared.registry.RegistryFault.{RegistryFault}
+use Rattle.scim_key.specs.declared.stores.StoreFault.{StoreFault}
 use Rattle.provider_store.specs.Calls.{Reads}
 use Rattle.provider_store.specs.Format.{resource_tree}
 use Rattle.provider_store.specs.Rows.{Holds, rows_of}
@@ -60,7 +60,7 @@ module _ {S : Type 0} (g : Ghosts S) where
   if_ok (Ok x) f p = f p
   if_ok (Err e) f p = tt
 
-  pub read_only : {T : Type 0} (old new : Kept S) (result : Result T RegistryFault) → IsTrue old.is_usable → new.is_usable ≡ old.is_usable → new.count ≡ old.count → new.writes ≡ old.writes
+  pub read_only : {T : Type 0} (old new : Kept S) (result : Result T StoreFault) → IsTrue old.is_usable → new.is_usable ≡ old.is_usable → new.count ≡ old.count → new.writes ≡ old.writes
       → Survives (at old) (at new) (λ _. ⊥) → (HasCleanDisk (at new) → Keeps (at old) (at new)) → (HasCleanDisk (at new) → OnOk result (IsTrue (at new).is_open)) → IsSound g old
       → CountsFaults CountsFault old.faults new.faults result
       → Reads g old new result
@@ -77,23 +77,23 @@ module _ {S : Type 0} (g : Ghosts S) where
   }
 
   -- a call of a registry whose reopening failed answers at once
-  pub refused : {T : Type 0} (old new : Kept S) (result : Result T RegistryFault) (fault : RegistryFault) → result ≡ Err fault → new.conn ≡ old.conn → (IsTrue new.is_usable → ⊥) → new.writes ≡ old.writes
+  pub refused : {T : Type 0} (old new : Kept S) (result : Result T StoreFault) (fault : StoreFault) → result ≡ Err fault → new.conn ≡ old.conn → (IsTrue new.is_usable → ⊥) → new.writes ≡ old.writes
       → CountsFault old.faults new.faults fault
       → Reads g old new result
   refused {T} old new result fault is conn shut writes counts = record {
     was = λ it. absurd (shut it.usable);
     same = λ it. absurd (shut it.usable);
     honest = subst (λ (h : Held S). HasCleanDisk (state g h)) conn;
-    opened = λ clean. subst (λ (r : Result T RegistryFault). OnOk r (IsFaithful g new)) (sym is) tt;
+    opened = λ clean. subst (λ (r : Result T StoreFault). OnOk r (IsFaithful g new)) (sym is) tt;
     stop = λ clean found may. (may.0, subst (λ (h : Held S). (state g h).may_leave may.0) conn may.1, may.2);
-    counted = subst (λ (r : Result T RegistryFault). CountsFaults CountsFault old.faults new.faults r) (sym is) counts;
+    counted = subst (λ (r : Result T StoreFault). CountsFaults CountsFault old.faults new.faults r) (sym is) counts;
     unwritten = writes;
   }
 
 -- ---- what a look-up answers
 
 module _ {S : Type 0} (g : Ghosts S) (old : Kept S) (whole : IsWhole g old) where
-  pub named_answer : (name : RecordName) (r : Result (Option StoredRecord) RegistryFault) (found : Result Found RegistryFault) → IfOk r (λ row. found ≡ Ok (found_of row))
+  pub named_answer : (name : RecordName) (r : Result (Option StoredRecord) StoreFault) (found : Result Found StoreFault) → IfOk r (λ row. found ≡ Ok (found_of row))
       → IfOk found (FindsName (resources (state g old.conn)) name) → IfOk r (λ row. row ≡ row_named name (kept_rows g old))
   named_answer name (Ok None) found is finds = sym (none_named (resources (state g old.conn)) (kept_rows g old) whole.holds name (rw is at finds))
   named_answer name (Ok (Some s)) found is finds = sym (some_named (resources (state g old.conn)) (kept_rows g old) whole.holds name s (rw is at finds))

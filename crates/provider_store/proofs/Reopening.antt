@@ -8,7 +8,7 @@ use Rattle.sqlite.specs.Held.{state}
 use Rattle.sqlite.specs.State.{State, HasCleanDisk}
 use Rattle.scim_resource.specs.Rows.{StoredRecord}
 use Rattle.provider_core.specs.Stores.{CountsFault}
-use Rattle.provider_core.specs.declared.registry.RegistryFault.{RegistryFault}
+use Rattle.scim_key.specs.declared.stores.StoreFault.{StoreFault}
 use Rattle.provider_store.specs.Calls.{OpensAgain}
 use Rattle.provider_store.specs.Format.{resource_tree, format_number}
 use Rattle.provider_store.specs.Rows.{Holds, rows_of}
@@ -70,7 +70,7 @@ module _ {S : Type 0} (g : Ghosts S) where
       unwritten = writes;
     }
 
-    pub not_reopened : (fault : RegistryFault) → CountsFault old.faults new.faults fault → new.writes ≡ old.writes
+    pub not_reopened : (fault : StoreFault) → CountsFault old.faults new.faults fault → new.writes ≡ old.writes
         → OpensAgain g old new (failing {T = Unit {0}} fault)
     not_reopened fault counts writes = record {
       found = λ _. tt;

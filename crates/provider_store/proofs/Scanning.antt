@@ -5,7 +5,7 @@ use Rattle.sqlite_trees.specs.declared.store.Store.{Ghosts}
 use Rattle.sqlite.specs.Held.{state}
 use Rattle.scim_resource.specs.Rows.{StoredRecord}
 use Rattle.provider_core.specs.Rows.{page_after}
-use Rattle.provider_core.specs.declared.registry.RegistryFault.{RegistryFault}
+use Rattle.scim_key.specs.declared.stores.StoreFault.{StoreFault}
 use Rattle.provider_core.proofs.MemoryLaws.{page-dropped}
 use Rattle.provider_store.specs.Connections.{HoldsPage, resources}
 use Rattle.provider_store.specs.Kept.{Kept, IsWhole, kept_rows}
@@ -37,7 +37,7 @@ take_whole xs after limit n is = elim (cases_lt (length xs) (after + limit)) [
 -- ---- calls
 
 -- the page that a look-up found is the one of the registry's rows
-pub page_answer : {S : Type 0} (g : Ghosts S) (old : Kept S) → IsWhole g old → {T : Type 0} (items : T → List StoredRecord) (after limit last count : ℕ) (r : Result T RegistryFault) (found : Result (Option T) RegistryFault)
+pub page_answer : {S : Type 0} (g : Ghosts S) (old : Kept S) → IsWhole g old → {T : Type 0} (items : T → List StoredRecord) (after limit last count : ℕ) (r : Result T StoreFault) (found : Result (Option T) StoreFault)
     → last ≡ min (after + limit) old.count → count ≡ last - after → IfOk r (λ page. (found ≡ Ok (Some page)) × (length (items page) ≡ count))
     → IfOk found (λ page. IfSome page (λ p. HoldsPage (resources (state g old.conn)) after last (items p))) → IfOk r (λ page. items page ≡ page_after after limit (kept_rows g old))
 page_answer g old whole items after limit last count (Err fault) found ends size is holds = tt

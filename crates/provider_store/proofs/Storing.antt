@@ -9,7 +9,7 @@ use Rattle.scim_resource.specs.Contents.{content_name}
 use Rattle.scim_resource.specs.Rows.{StoredRecord, IsStored}
 use Rattle.provider_core.specs.Rows.{row_named, with_row}
 use Rattle.provider_core.specs.Stores.{CountsFault, HoldsNumber}
-use Rattle.provider_core.specs.declared.registry.RegistryFault.{RegistryFault}
+use Rattle.scim_key.specs.declared.stores.StoreFault.{StoreFault}
 use Rattle.provider_core.proofs.MemoryLaws.{update-sets}
 use Rattle.std.proofs.Math.ListN.{length-set}
 use Rattle.provider_store.specs.Calls.{Writes}
@@ -107,7 +107,7 @@ module _ {S : Type 0} (g : Ghosts S) where
         let kept = keeps clean in
         whole_still g old new usable count kept (faithful_before clean (kept.was_open still)).whole still
 
-    pub failed : (fault : RegistryFault) → (HasCleanDisk (at new) → Keeps (at old) (at new)) → new.count ≡ old.count → CountsFault old.faults new.faults fault → new.writes ≡ old.writes
+    pub failed : (fault : StoreFault) → (HasCleanDisk (at new) → Keeps (at old) (at new)) → new.count ≡ old.count → CountsFault old.faults new.faults fault → new.writes ≡ old.writes
         → Writes g old new rows (failing {T = Unit {0}} fault)
     failed fault keeps count faults writes = record {
       was = λ it. faithful_before it.clean ((keeps it.clean).was_open it.is_open);

@@ -6,8 +6,8 @@ use Rattle.sqlite_trees.specs.Tree.{Trees}
 use Rattle.sqlite.specs.Held.{Held, held_code, state}
 use Rattle.sqlite.specs.State.{HasCleanDisk}
 use Rattle.scim_resource.specs.Rows.{StoredRecord}
-use Rattle.provider_core.specs.declared.registry.RegistryFault.{RegistryFault}
-use Rattle.provider_core.specs.declared.registry.RegistryFault.TheVariants.{Store}
+use Rattle.scim_key.specs.declared.stores.StoreFault.{StoreFault}
+use Rattle.scim_key.specs.declared.stores.StoreFault.TheVariants.{Store}
 use Rattle.provider_store.specs.Format.{resource_tree}
 use Rattle.provider_store.specs.Rows.{Holds, rows_of}
 use Rattle.provider_store.specs.Connections.{IsLaid, resources}
@@ -30,7 +30,7 @@ kept_code {S} store =
     (λ _. refl)
 
 -- after a reopening that failed, a call returns only a fault of the store
-abbrev pub IsRefused : {S T : Type 0} → Kept S → Result T RegistryFault → Type 0
+abbrev pub IsRefused : {S T : Type 0} → Kept S → Result T StoreFault → Type 0
 IsRefused k result = k.is_usable ≡ false → result ≡ Err Store
 
 module _ {S : Type 0} (g : Ghosts S) where

@@ -2,7 +2,6 @@ pub mod Format
 pub mod Rows
 pub mod Lawful
 pub mod Connections
-pub mod Faults
 pub mod Opening
 pub mod Kept
 pub mod Calls

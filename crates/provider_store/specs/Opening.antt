@@ -15,8 +15,8 @@ use Rattle.sql_tables.specs.Layouts.{IsBlank, IsFormat, IsOne, IsPlainTable, no_
 use Rattle.sql_tables.specs.Faults.{HasFailed}
 use Rattle.provider_store.specs.declared.opening.RegistryOpenFault.{RegistryOpenFault}
 use Rattle.provider_store.specs.declared.opening.RegistryOpenFault.TheVariants.{Store, Damaged, Newer, Memory}
-use Rattle.provider_core.specs.declared.registry.RegistryFault.{RegistryFault}
-use Rattle.provider_core.specs.declared.registry.RegistryFault.TheVariants as registry
+use Rattle.scim_key.specs.declared.stores.StoreFault.{StoreFault}
+use Rattle.scim_key.specs.declared.stores.StoreFault.TheVariants as store
 
 -- ---- the tables
 
@@ -36,14 +36,14 @@ IsProvider = IsOne provider_schema
 
 -- ---- faults
 
-abbrev pub open_fault : RegistryFault → RegistryOpenFault
-open_fault registry.Store = Store
-open_fault registry.Memory = Memory
+abbrev pub open_fault : StoreFault → RegistryOpenFault
+open_fault store.Store = Store
+open_fault store.Memory = Memory
 
 -- the registry's fault for a fault of an opening
-abbrev pub registry_fault : RegistryOpenFault → RegistryFault
-registry_fault Memory = registry.Memory
-registry_fault fault = registry.Store
+abbrev pub registry_fault : RegistryOpenFault → StoreFault
+registry_fault Memory = store.Memory
+registry_fault fault = store.Store
 
 -- a fault that says that the store failed has this cause
 abbrev pub OpenFailsFor : (failure : Type 0) → RegistryOpenFault → Type 0

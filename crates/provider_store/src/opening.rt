@@ -19,11 +19,11 @@ ghost use Rattle.sql_tables.specs.Layouts.{IsBlank, IsFormat};
 ghost use Rattle.sql_tables.specs.Statements.{Checks, LeavesStore, Looks, WhileOpen};
 
 use crate::format::{FORMAT, Provider, is_provider};
-use crate::tables::{Found, fault_of, find_named, find_numbered, find_page};
-use provider_core::{ROWS_AT_ONCE, RegistryFault};
-use scim_key::LAST_NUMBER;
+use crate::tables::{Found, find_named, find_numbered, find_page};
+use provider_core::ROWS_AT_ONCE;
+use scim_key::{LAST_NUMBER, StoreFault};
 use scim_resource::Stored;
-use sql_tables::{Mark, ask, find_mark, is_blank, number_at};
+use sql_tables::{Mark, ask, find_mark, is_blank, number_at, statement_fault};
 use sqlite::{Alter, Connection, Error, Row};
 use sqlite_value::value::ValueRef;
 use std::alloc::{AllocError, Global};
@@ -56,29 +56,29 @@ impl From<AllocError> for RegistryOpenFault {
     }
 }
 
-impl From<RegistryFault> for RegistryOpenFault {
+impl From<StoreFault> for RegistryOpenFault {
     ghost use Rattle.provider_store.specs.Opening.{open_fault};
 
     ghost from_gives = { λ fault given. given ≡ open_fault fault };
 
-    fn from(fault: RegistryFault) -> RegistryOpenFault {
+    fn from(fault: StoreFault) -> RegistryOpenFault {
         match fault {
-            RegistryFault::Store => RegistryOpenFault::Store,
-            RegistryFault::Memory => RegistryOpenFault::Memory,
+            StoreFault::Store => RegistryOpenFault::Store,
+            StoreFault::Memory => RegistryOpenFault::Memory,
         }
     }
 }
 
 /// A failed statement never means damage or a newer format.
 impl From<Error> for RegistryOpenFault {
-    ghost use Rattle.provider_store.specs.Faults.{statement_fault};
     ghost use Rattle.provider_store.specs.Opening.{open_fault};
+    ghost use Rattle.sql_tables.specs.Faults.{statement_fault};
 
     ghost from_gives = { λ error fault. (fault ≡ open_fault (statement_fault error))
         × IsFor ⊥ (λ _. ⊥) fault };
 
     fn from(error: Error) -> RegistryOpenFault {
-        RegistryOpenFault::from(fault_of(error))
+        RegistryOpenFault::from(statement_fault(error))
     }
 }
 

@@ -4,25 +4,24 @@ ghost use Rattle.std.specs.Result.{is_ok};
 ghost use Rattle.scim_resource.specs.Contents.{content_name};
 ghost use Rattle.provider_core.specs.Rows.{AreNamedApart, IsNumberedFrom, count_if_free, page_after, row_named, row_with_id, with_row};
 ghost use Rattle.provider_core.specs.Stores.{CountsFault, CountsFaults, HasRisen, HoldsNumber};
-ghost use Rattle.provider_core.specs.declared.registry.RegistryFault.TheVariants.{Store};
 ghost use Rattle.provider_core.specs.declared.registry.TheConstants.{ROWS_AT_ONCE};
 ghost use Rattle.provider_store.specs.Calls.{Reads, Writes, OpensAgain};
 ghost use Rattle.provider_store.specs.Kept.{IsFaithful, IsHonest, IsRefused, MayHold, kept_rows};
 ghost use Rattle.provider_store.specs.Connections.{FindsName, FindsNumber, resources};
-ghost use Rattle.provider_store.specs.Faults.{FailsFor};
 ghost use Rattle.provider_store.specs.declared.tables.Found.TheVariants.{Damaged};
 ghost use Rattle.provider_store.specs.Lookups.{IsFaultOf, IsPageFault, found_of};
 ghost use Rattle.provider_store.specs.Opening.{IsCause, IsDamaged, IsUnfit, LeavesNone, OpenFailsFor, OpeningFails, Stands, registry_fault};
 ghost use Rattle.sqlite.specs.Held.{state};
 ghost use Rattle.sqlite.specs.State.{HasCleanDisk, Survives};
-ghost use Rattle.sql_tables.specs.Faults.{HasFailed};
+ghost use Rattle.sql_tables.specs.Faults.{FailsFor, HasFailed};
 ghost use Rattle.sql_tables.specs.Statements.{LeavesStore};
 
 use crate::opening::{RegistryOpenFault, check_tables, open_tables};
 use crate::tables::{Found, find_named, find_numbered, find_page, insert_row, update_row};
-use provider_core::{Registry, RegistryFault, Reopen};
-use scim_key::{RecordName, ResourceId};
+use provider_core::{Registry, Reopen};
+use scim_key::{RecordName, ResourceId, StoreFault};
 use scim_resource::Stored;
+use sql_tables::{counted, refusal};
 use sqlite::{Alter, Connection};
 use std::alloc::Global;
 use std::marker::Model;
@@ -62,41 +61,19 @@ impl<S: Alter> Model for SqlRegistry<S> {
     }) };
 }
 
-/// Returns the fault, and counts it if it is a fault of the store.
-fn counted(faults: &mut u64, fault: RegistryFault) -> RegistryFault
-    ensures same { result ≡ fault }
-    ensures counts { CountsFault faults.old faults.new result }
-{
-    if let RegistryFault::Store = fault {
-        *faults = faults.saturating_add(1);
-    }
-    fault
-}
-
-/// The fault of every call after a reopening that failed.
-fn refusal(faults: &mut u64) -> RegistryFault
-    ensures is { result ≡ Store }
-    ensures counts { CountsFault faults.old faults.new result }
-{
-    counted(faults, RegistryFault::Store)
-}
-
 /// The registry's fault for a fault of an opening.
-fn registry_fault(fault: RegistryOpenFault) -> RegistryFault
+fn registry_fault(fault: RegistryOpenFault) -> StoreFault
     ensures { result ≡ registry_fault fault }
 {
     match fault {
-        RegistryOpenFault::Memory => RegistryFault::Memory,
+        RegistryOpenFault::Memory => StoreFault::Memory,
         RegistryOpenFault::Store | RegistryOpenFault::Damaged(_) | RegistryOpenFault::Newer =>
-            RegistryFault::Store,
+            StoreFault::Store,
     }
 }
 
 /// The row that a look-up found; an invalid row is a fault of the store.
-fn one_of(
-    faults: &mut u64,
-    found: Result<Found, RegistryFault>,
-) -> Result<Option<Stored>, RegistryFault>
+fn one_of(faults: &mut u64, found: Result<Found, StoreFault>) -> Result<Option<Stored>, StoreFault>
     ensures found { IfOk result (λ row. found ≡ Ok (found_of row)) }
     ensures fault { IfErr result (IsFaultOf found) }
     ensures counts { CountsFaults CountsFault faults.old faults.new result }
@@ -104,7 +81,7 @@ fn one_of(
     match found {
         Ok(Found::There(row)) => Ok(Some(row)),
         Ok(Found::Nothing) => Ok(None),
-        Ok(Found::Damaged) => Err(counted(faults, RegistryFault::Store)),
+        Ok(Found::Damaged) => Err(counted(faults, StoreFault::Store)),
         Err(fault) => Err(counted(faults, fault)),
     }
 }
@@ -112,16 +89,16 @@ fn one_of(
 /// The page of this many rows that a look-up found; any other result is a fault of the store.
 fn page_of(
     faults: &mut u64,
-    found: Result<Option<Vec<Stored>>, RegistryFault>,
+    found: Result<Option<Vec<Stored>>, StoreFault>,
     count: u32,
-) -> Result<Vec<Stored>, RegistryFault>
+) -> Result<Vec<Stored>, StoreFault>
     ensures found { IfOk result (λ page. (found ≡ Ok (Some page)) × (length page.items ≡ count)) }
     ensures fault { IfErr result (IsPageFault (λ page. length page.items ≡ count) found) }
     ensures counts { CountsFaults CountsFault faults.old faults.new result }
 {
     let fault = match found {
         Ok(Some(page)) if page.len() == count as usize => return Ok(page),
-        Ok(_) => RegistryFault::Store,
+        Ok(_) => StoreFault::Store,
         Err(fault) => fault,
     };
     Err(counted(faults, fault))
@@ -180,7 +157,7 @@ impl<S: Alter> SqlRegistry<S> {
     }
 
     /// The row with this number, if there is one.
-    fn row_at(&mut self, number: u32) -> Result<Option<Stored>, RegistryFault>
+    fn row_at(&mut self, number: u32) -> Result<Option<Stored>, StoreFault>
         requires { 1 ≤ number }
         ensures ok { IsFaithful S.Store self.new
             → IfOk result (λ row. row ≡ slice_get (kept_rows S.Store self.old) (number - 1)) }
@@ -200,7 +177,7 @@ impl<S: Alter> SqlRegistry<S> {
     }
 
     /// The row of a record, if there is one.
-    fn row_of(&mut self, name: &RecordName) -> Result<Option<Stored>, RegistryFault>
+    fn row_of(&mut self, name: &RecordName) -> Result<Option<Stored>, StoreFault>
         ensures ok { IsFaithful S.Store self.new
             → IfOk result (λ row. row ≡ row_named name.now (kept_rows S.Store self.old)) }
         ensures reads { Reads S.Store self.old self.new result }
@@ -242,7 +219,7 @@ impl<S: Alter> Registry for SqlRegistry<S> {
 
     ghost writes = { λ k. k.writes };
 
-    fn count(&mut self) -> Result<u32, RegistryFault>
+    fn count(&mut self) -> Result<u32, StoreFault>
         ensures ok { IsFaithful S.Store self.new
             → IfOk result (λ n. n ≡ length (kept_rows S.Store self.old)) }
         ensures reads { Reads S.Store self.old self.new result }
@@ -256,7 +233,7 @@ impl<S: Alter> Registry for SqlRegistry<S> {
         Ok(self.count)
     }
 
-    fn by_key(&mut self, name: &RecordName) -> Result<Option<Stored>, RegistryFault>
+    fn by_key(&mut self, name: &RecordName) -> Result<Option<Stored>, StoreFault>
         ensures ok { IsFaithful S.Store self.new
             → IfOk result (λ row. row ≡ row_named name.now (kept_rows S.Store self.old)) }
         ensures apart { IsFaithful S.Store self.new → AreNamedApart (kept_rows S.Store self.old) }
@@ -270,7 +247,7 @@ impl<S: Alter> Registry for SqlRegistry<S> {
         self.row_of(name)
     }
 
-    fn count_if_free(&mut self, name: &RecordName) -> Result<Option<u32>, RegistryFault>
+    fn count_if_free(&mut self, name: &RecordName) -> Result<Option<u32>, StoreFault>
         ensures ok { IsFaithful S.Store self.new
             → IfOk result (λ count. count ≡ count_if_free name.now (kept_rows S.Store self.old)) }
         ensures reads { Reads S.Store self.old self.new result }
@@ -286,7 +263,7 @@ impl<S: Alter> Registry for SqlRegistry<S> {
         }
     }
 
-    fn by_id(&mut self, id: &ResourceId) -> Result<Option<Stored>, RegistryFault>
+    fn by_id(&mut self, id: &ResourceId) -> Result<Option<Stored>, StoreFault>
         ensures ok { IsFaithful S.Store self.new
             → IfOk result (λ row. row ≡ row_with_id id.now (kept_rows S.Store self.old)) }
         ensures reads { Reads S.Store self.old self.new result }
@@ -306,7 +283,7 @@ impl<S: Alter> Registry for SqlRegistry<S> {
         }
     }
 
-    fn scan(&mut self, after: u32, limit: usize) -> Result<Vec<Stored>, RegistryFault>
+    fn scan(&mut self, after: u32, limit: usize) -> Result<Vec<Stored>, StoreFault>
         requires few { limit ≤ ROWS_AT_ONCE }
         ensures ok { IsFaithful S.Store self.new
             → IfOk result (λ page. page.items
@@ -325,7 +302,7 @@ impl<S: Alter> Registry for SqlRegistry<S> {
         page_of(&mut self.faults, found, last.saturating_sub(after))
     }
 
-    fn insert(&mut self, row: Stored) -> Result<(), RegistryFault>
+    fn insert(&mut self, row: Stored) -> Result<(), StoreFault>
         requires next { IsFaithful S.Store self.old
             → row.number ≡ length (kept_rows S.Store self.old) + 1 }
         requires free { IsFaithful S.Store self.old
@@ -349,7 +326,7 @@ impl<S: Alter> Registry for SqlRegistry<S> {
         }
     }
 
-    fn update(&mut self, row: &Stored) -> Result<(), RegistryFault>
+    fn update(&mut self, row: &Stored) -> Result<(), StoreFault>
         requires there { IsFaithful S.Store self.old
             → HoldsNumber (kept_rows S.Store self.old) row.now }
         ensures replaces { Writes S.Store self.old self.new
@@ -380,7 +357,7 @@ impl<S: Alter> Registry for SqlRegistry<S> {
 impl<S: Alter> Reopen for SqlRegistry<S> {
     /// Checks the tables, their format and each row again, on the same connection. If that fails, every
     /// call except this one and `close` returns a store fault.
-    fn reopen(&mut self) -> Result<(), RegistryFault>
+    fn reopen(&mut self) -> Result<(), StoreFault>
         ensures reopens { OpensAgain S.Store self.old self.new result }
         ensures failed { IsHonest S.Store self.new
             → IfErr result

@@ -6,17 +6,16 @@ ghost use Rattle.sqlite.specs.State.{HasCleanDisk, Survives};
 ghost use Rattle.scim_resource.specs.Contents.{content_kind, content_name};
 ghost use Rattle.scim_resource.specs.Reading.{content_in};
 ghost use Rattle.scim_resource.specs.Rows.{IsStored, StoredRecord};
-ghost use Rattle.provider_store.specs.Faults.{FailsFor, statement_fault};
 ghost use Rattle.provider_store.specs.Rows.{IsRowOf, kind_code};
 ghost use Rattle.provider_store.specs.Connections.{AreRowsFrom, FindsName, FindsNumber, HoldsPage, IsBroken, IsLaid, IsOnly, IsThere, Leaves, Makes, added, content_text, renewed, resources};
+ghost use Rattle.sql_tables.specs.Faults.{FailsFor};
 ghost use Rattle.sql_tables.specs.Statements.{Checks, Keeps, WhileOpen};
 
 use crate::format::Provider;
-use provider_core::RegistryFault;
-use scim_key::{Kind, LAST_NUMBER, RecordName};
+use scim_key::{Kind, LAST_NUMBER, RecordName, StoreFault};
 use scim_resource::{Content, ContentFault, LAST_VERSION, Stored};
-use sql_tables::{StatementFault, ask, number_at, text_at, write};
-use sqlite::{Alter, Connection, Error, Row};
+use sql_tables::{ask, number_at, statement_fault, text_at, write};
+use sqlite::{Alter, Connection, Row};
 use sqlite_value::value::ValueRef;
 use std::alloc::{AllocError, Global};
 
@@ -27,16 +26,6 @@ pub enum Found {
     /// A row without a valid resource, or more than one row.
     Damaged,
     There(Stored),
-}
-
-/// The registry's fault for an error of the database.
-pub(crate) fn fault_of(error: Error) -> RegistryFault
-    ensures { result ≡ statement_fault error }
-{
-    match StatementFault::from(error) {
-        StatementFault::Memory => RegistryFault::Memory,
-        StatementFault::Store => RegistryFault::Store,
-    }
 }
 
 // ---- rows
@@ -157,7 +146,7 @@ pub(crate) fn find_numbered<S: Alter>(
     alloc: Global,
     conn: &mut Connection<S>,
     number: u32,
-) -> Result<Found, RegistryFault>
+) -> Result<Found, StoreFault>
     requires laid { WhileOpen IsLaid (state S.Store conn.old) }
     ensures found { HasCleanDisk (state S.Store conn.new)
         → IfOk result (FindsNumber (resources (state S.Store conn.old)) number) }
@@ -169,7 +158,7 @@ pub(crate) fn find_numbered<S: Alter>(
         &[ValueRef::Int(i64::from(number))],
     ) {
         Ok(rows) => Ok(only(alloc, rows.as_slice())?),
-        Err(error) => Err(fault_of(error)),
+        Err(error) => Err(statement_fault(error)),
     }
 }
 
@@ -203,7 +192,7 @@ pub(crate) fn find_page<S: Alter>(
     conn: &mut Connection<S>,
     after: u32,
     last: u32,
-) -> Result<Option<Vec<Stored>>, RegistryFault>
+) -> Result<Option<Vec<Stored>>, StoreFault>
     requires laid { WhileOpen IsLaid (state S.Store conn.old) }
     ensures found { HasCleanDisk (state S.Store conn.new)
         → IfOk result
@@ -223,7 +212,7 @@ pub(crate) fn find_page<S: Alter>(
         ],
     ) {
         Ok(rows) => Ok(read_page(alloc, rows.as_slice(), after)?),
-        Err(error) => Err(fault_of(error)),
+        Err(error) => Err(statement_fault(error)),
     }
 }
 
@@ -232,7 +221,7 @@ pub(crate) fn find_named<S: Alter>(
     alloc: Global,
     conn: &mut Connection<S>,
     name: &RecordName,
-) -> Result<Found, RegistryFault>
+) -> Result<Found, StoreFault>
     requires laid { WhileOpen IsLaid (state S.Store conn.old) }
     ensures found { HasCleanDisk (state S.Store conn.new)
         → IfOk result (FindsName (resources (state S.Store conn.old)) name.now) }
@@ -247,7 +236,7 @@ pub(crate) fn find_named<S: Alter>(
         ],
     ) {
         Ok(rows) => Ok(only(alloc, rows.as_slice())?),
-        Err(error) => Err(fault_of(error)),
+        Err(error) => Err(statement_fault(error)),
     }
 }
 
@@ -265,7 +254,7 @@ pub(crate) fn insert_row<S: Alter>(
     alloc: Global,
     conn: &mut Connection<S>,
     row: &Stored,
-) -> Result<(), RegistryFault>
+) -> Result<(), StoreFault>
     requires laid { WhileOpen IsLaid (state S.Store conn.old) }
     ensures made { HasCleanDisk (state S.Store conn.new)
         → OnOk result
@@ -291,7 +280,7 @@ pub(crate) fn insert_row<S: Alter>(
         ],
     ) {
         Ok(_) => Ok(()),
-        Err(error) => Err(fault_of(error)),
+        Err(error) => Err(statement_fault(error)),
     }
 }
 
@@ -300,7 +289,7 @@ pub(crate) fn update_row<S: Alter>(
     alloc: Global,
     conn: &mut Connection<S>,
     row: &Stored,
-) -> Result<(), RegistryFault>
+) -> Result<(), StoreFault>
     requires laid { WhileOpen IsLaid (state S.Store conn.old) }
     requires there { WhileOpen (λ s. IsThere (resources s) row.now) (state S.Store conn.old) }
     ensures made { HasCleanDisk (state S.Store conn.new)
@@ -324,6 +313,6 @@ pub(crate) fn update_row<S: Alter>(
         ],
     ) {
         Ok(_) => Ok(()),
-        Err(error) => Err(fault_of(error)),
+        Err(error) => Err(statement_fault(error)),
     }
 }

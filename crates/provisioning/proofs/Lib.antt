@@ -3,7 +3,7 @@ mod OnwardLemmas
 mod RestLemmas
 mod RunLemmas
 mod TurnLemmas
-mod CarryLemmas
+pub mod CarryLemmas
 mod OfferLemmas
 mod MoveLemmas
 mod TrackLemmas

@@ -5,11 +5,10 @@ use Rattle.std.specs.declared.io.Error.{Error}
 use Rattle.scim_key.specs.declared.records.RecordName.{RecordName}
 use Rattle.scim_message.specs.declared.messages.Answer.{Answer}
 use Rattle.scim_message.specs.declared.messages.Request.{Request}
-use Rattle.http_text.specs.Counts.{Reading, Writing}
+use Rattle.http_text.specs.Counts.{Reading, Writing, fresh_reading, fresh_writing}
 use Rattle.scim_client.specs.Exchanges.{Sends, SpellsSent, Reads, ExchangesKnown}
 use Rattle.scim_client.specs.Requests.{text_of}
 use Rattle.scim_client.specs.declared.exchange.ExchangeFault.{ExchangeFault}
-use Rattle.connection.specs.Turns.{fresh_reading, fresh_writing}
 use Rattle.journal_core.specs.Calls.{Writes}
 use Rattle.journal_core.specs.declared.journals.Journal.{Ghosts}
 use Rattle.connector_core.specs.Asking.{asking}

@@ -11,10 +11,6 @@ use Rattle.connector_core.specs.declared.learning.LearnFault.{LearnFault}
 use Rattle.connector_core.specs.declared.learning.LearnFault.TheVariants as learning
 use Rattle.connector_core.specs.declared.opening.ConnectorOpenFault.{ConnectorOpenFault}
 use Rattle.connector_core.specs.declared.opening.ConnectorOpenFault.TheVariants as opening
-use Rattle.provider_core.specs.declared.registry.RegistryFault.{RegistryFault}
-use Rattle.provider_core.specs.declared.registry.RegistryFault.TheVariants as registry
-use Rattle.provisioning.specs.declared.faults.LoopFault.{LoopFault}
-use Rattle.provisioning.specs.declared.faults.LoopFault.TheVariants as loop
 use Rattle.provisioning.specs.declared.faults.RunFault.{RunFault}
 use Rattle.provisioning.specs.declared.faults.RunFault.TheVariants.{Connection, Journal, Memory}
 use Rattle.provisioning.specs.declared.faults.RecordFault.{RecordFault}
@@ -54,10 +50,3 @@ unlearnt (learning.Refused status) = Ok (Some Refused)
 unlearnt learning.NoSuchRecord = Ok (Some NoSuchRecord)
 unlearnt learning.Store = Err Journal
 unlearnt learning.Memory = Err Memory
-
--- ---- with a provider in the same program
-
--- the fault for a fault of the provider's store
-abbrev pub registry_fault : RegistryFault → LoopFault
-registry_fault registry.Store = loop.Store
-registry_fault registry.Memory = loop.Ended Memory

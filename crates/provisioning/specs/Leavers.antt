@@ -7,8 +7,8 @@ use Rattle.scim_key.specs.declared.records.RecordName.{RecordName}
 use Rattle.source_csv.specs.declared.rows.Row.{Row}
 use Rattle.source_csv.specs.declared.rows.Row.TheVariants.{User, Group}
 use Rattle.journal_core.specs.declared.journals.Journal.{Ghosts}
-use Rattle.journal_core.specs.declared.journals.JournalFault.{JournalFault}
-use Rattle.journal_core.specs.declared.journals.JournalFault.TheVariants as journal
+use Rattle.scim_key.specs.declared.stores.StoreFault.{StoreFault}
+use Rattle.scim_key.specs.declared.stores.StoreFault.TheVariants as store
 use Rattle.connector_core.specs.Book.{Book, confirmed_of, wanted_of, wanted_row}
 use Rattle.connector_core.specs.Maps.{BookMap, book_of}
 use Rattle.connector_core.specs.State.{IsOpened, State}
@@ -48,9 +48,9 @@ leavers before after = count_by (is_switched_off (book_of after)) (names_in_use 
 -- ---- counting them
 
 -- what ends a run if its journal can't be read
-abbrev pub fault_of : JournalFault → RunFault
-fault_of journal.Store = run.Journal
-fault_of journal.Memory = run.Memory
+abbrev pub fault_of : StoreFault → RunFault
+fault_of store.Store = run.Journal
+fault_of store.Memory = run.Memory
 
 -- no fault is forgotten
 abbrev pub NoFewer : (old new : ℕ) → RunFault → Type 0

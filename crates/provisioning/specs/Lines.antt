@@ -34,10 +34,6 @@ standing_text (Unconfirmed (Some fault)) = codes "unconfirmed " ++ record_fault_
 abbrev pub record_line : RecordName → (standing : List ℕ) → List ℕ
 record_line name standing = kind_word name.kind ++ (codes " " ++ (name.key ++ (codes " " ++ (standing ++ codes "\n"))))
 
--- the line of the row with this number: what is said about it
-abbrev pub row_line : (number : ℕ) → (said : List ℕ) → List ℕ
-row_line number said = decimal number ++ (codes " " ++ (said ++ codes "\n"))
-
 -- what is said of a row that the connector refuses: its file, the place of its record, and the code
 abbrev pub refused_text : Kind → (place : ℕ) → ChangeFault → List ℕ
 refused_text kind place fault = label kind ++

@@ -4,8 +4,8 @@ ghost use Rattle.journal_core.specs.Calls.{Reads};
 ghost use Rattle.journal_core.specs.Stores.{CountsFault};
 ghost use Rattle.provisioning.specs.DryRuns.{Shows};
 
-use journal_core::{Entry, Journal, JournalFault};
-use scim_key::{RecordName, ResourceId, Revision};
+use journal_core::{Entry, Journal};
+use scim_key::{RecordName, ResourceId, Revision, StoreFault};
 use source_csv::Row;
 use std::alloc::Global;
 
@@ -29,7 +29,7 @@ impl DryJournal {
     }
 
     /// The entries of a journal, which is only read.
-    pub fn of<J: Journal>(journal: &mut J) -> Result<DryJournal, JournalFault>
+    pub fn of<J: Journal>(journal: &mut J) -> Result<DryJournal, StoreFault>
         ensures shows { J.is_faithful journal.new
             → IfOk result (Shows (J.entries journal.old)) }
         ensures reads { Reads J.Journal CountsFault journal.old journal.new result }
@@ -58,16 +58,16 @@ impl Journal for DryJournal {
 
     ghost writes = { λ it. it.writes };
 
-    fn load(&mut self) -> Result<Vec<Entry>, JournalFault> {
+    fn load(&mut self) -> Result<Vec<Entry>, StoreFault> {
         Ok(self.entries.clone()?)
     }
 
-    fn put_row(&mut self, _: &Row) -> Result<(), JournalFault> {
+    fn put_row(&mut self, _: &Row) -> Result<(), StoreFault> {
         self.writes = self.writes.saturating_add(1);
         Ok(())
     }
 
-    fn put_rows(&mut self, _: &[Row]) -> Result<(), JournalFault> {
+    fn put_rows(&mut self, _: Vec<Row>) -> Result<(), StoreFault> {
         self.writes = self.writes.saturating_add(1);
         Ok(())
     }
@@ -77,7 +77,7 @@ impl Journal for DryJournal {
         _: &RecordName,
         _: Revision,
         _: &ResourceId,
-    ) -> Result<(), JournalFault> {
+    ) -> Result<(), StoreFault> {
         self.writes = self.writes.saturating_add(1);
         Ok(())
     }

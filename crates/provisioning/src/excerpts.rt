@@ -1,7 +1,7 @@
 //! Texts of others, of which the first bytes are printed.
+use journal_core::Printable;
 use std::alloc::{AllocError, Global};
 use std::fmt;
-use storage::Printable;
 
 /// The most bytes of one text of others that are printed.
 const EXCERPT_LIMIT: usize = 200;

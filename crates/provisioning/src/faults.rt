@@ -6,7 +6,6 @@ ghost use Rattle.provisioning.specs.Runs.{IsUntold};
 ghost use Rattle.provisioning.specs.declared.faults.RunFault.TheVariants.{Untold};
 
 use connector_core::{ConnectorOpenFault, LearnFault};
-use provider_core::RegistryFault;
 use scim_client::{AnswerFault, ExchangeFault};
 use std::alloc::AllocError;
 use std::io::ErrorKind;
@@ -85,7 +84,7 @@ impl From<ConnectorOpenFault> for RunFault {
 }
 
 /// The fault of a stream that couldn't be opened, or of a port that couldn't be listened on.
-pub(crate) fn open_fault(error: io::Error) -> RunFault
+pub fn open_fault(error: io::Error) -> RunFault
     ensures { result ≡ open_fault error }
 {
     match error.kind() {
@@ -124,42 +123,8 @@ pub(crate) fn unlearnt(fault: LearnFault) -> Result<Option<RecordFault>, RunFaul
     }
 }
 
-/// What ends a run with its own provider. Its text is printed on standard error.
-#[derive(Clone, Copy, Debug, Error)]
-pub enum LoopFault {
-    /// A fault of the connector's side.
-    #[error("{0}")]
-    Ended(RunFault),
-    /// The provider's store failed.
-    #[error("store fault")]
-    Store,
-}
-
-impl From<RunFault> for LoopFault {
-    ghost use Rattle.provisioning.specs.declared.faults.LoopFault.TheVariants.{Ended};
-
-    ghost from_gives = { λ push fault. fault ≡ Ended push };
-
-    fn from(fault: RunFault) -> LoopFault {
-        LoopFault::Ended(fault)
-    }
-}
-
-impl From<RegistryFault> for LoopFault {
-    ghost use Rattle.provisioning.specs.Faults.{registry_fault};
-
-    ghost from_gives = { λ registry fault. fault ≡ registry_fault registry };
-
-    fn from(fault: RegistryFault) -> LoopFault {
-        match fault {
-            RegistryFault::Store => LoopFault::Store,
-            RegistryFault::Memory => LoopFault::Ended(RunFault::Memory),
-        }
-    }
-}
-
 /// The fault of a run if a line can't be written.
-pub(crate) fn unwritten(error: io::Error) -> RunFault
+pub fn unwritten(error: io::Error) -> RunFault
     ensures fault { result ≡ failed (error_kind error) Untold }
     ensures untold { IsUntold result }
 {

@@ -11,8 +11,8 @@ use crate::faults::RunFault;
 use crate::offering::{Hear, Judged, offer_all};
 use crate::sources::Sources;
 use connector_core::Connector;
-use journal_core::{Journal, JournalFault};
-use scim_key::{RecordName, Revision};
+use journal_core::Journal;
+use scim_key::{RecordName, Revision, StoreFault};
 use source_csv::Row;
 use std::alloc::{AllocError, Global};
 use std::io;
@@ -48,12 +48,12 @@ pub fn count_leavers<J: Journal>(
 }
 
 /// What ends a run if its journal can't be read.
-fn fault_of(fault: JournalFault) -> RunFault
+fn fault_of(fault: StoreFault) -> RunFault
     ensures { result ≡ fault_of fault }
 {
     match fault {
-        JournalFault::Store => RunFault::Journal,
-        JournalFault::Memory => RunFault::Memory,
+        StoreFault::Store => RunFault::Journal,
+        StoreFault::Memory => RunFault::Memory,
     }
 }
 

@@ -1,11 +1,8 @@
 //! The lines of a run.
-ghost use Rattle.std.specs.Prelude.{◌≡◌, ◌+◌, ◌-◌, ◌^◌, ◌∷◌, [], None, min, OnOk};
+ghost use Rattle.std.specs.Prelude.{◌∷◌, [], None, OnOk};
 ghost use Rattle.std.specs.Io.KnownBytes.{Appends};
 ghost use Rattle.provisioning.specs.Runs.{Tells};
-ghost use Rattle.provisioning.specs.Offering.{Hears};
-ghost use Rattle.provisioning.specs.Lines.{record_line, row_line, standing_text};
-ghost use Rattle.world_sim.specs.Lines.{report_text};
-ghost use Rattle.world_sim.specs.declared.reports.Report.TheVariants.{Judged as JudgedReport};
+ghost use Rattle.provisioning.specs.Lines.{record_line, standing_text};
 
 use crate::offering::{Hear, Judged};
 use crate::older::OlderLine;
@@ -17,7 +14,6 @@ use journal_core::kind_word;
 use scim_key::{Kind, RecordName};
 use std::io::{Eprint, Write};
 use std::{fmt, io};
-use world_sim::Report;
 
 /// A row that the connector refuses. Its text is the line on standard error: `users record 2: S7`.
 #[derive(Clone, Copy)]
@@ -57,7 +53,7 @@ fn report_refused<E: Eprint>(stderr: &E, judged: &Judged) {
 }
 
 /// Reports a row on standard error if it is older than the wanted row of its record.
-fn report_older<E: Eprint>(stderr: &E, judged: &Judged) {
+pub fn report_older<E: Eprint>(stderr: &E, judged: &Judged) {
     if let Some(older) = &judged.older {
         let row = OlderLine {
             kind: judged.kind,
@@ -116,49 +112,5 @@ impl<'a, W: Write + Drop, E: Eprint> Tell for Lines<'a, W, E> {
         let (kind, key) = (kind_word(name.kind), name.key.as_str());
         writeln!(self.out, "{kind} {key} {}", pushed.standing)?;
         self.out.flush()
-    }
-}
-
-/// Prints a line for each row once its file is taken: its number from 1, and the connector's verdict. It
-/// reports older rows on standard error, and prints nothing for records.
-#[derive(Drop)]
-pub(crate) struct Reports<'a, W: Drop, E> {
-    pub out: W,
-    pub stderr: &'a E,
-    pub rows: usize,
-}
-
-impl<'a, W: Write + Drop, E: Eprint> Hear for Reports<'a, W, E> {
-    /// Which rows the bytes of `out` are of isn't said; each line that is added is, below.
-    ghost heard = { λ _. None };
-
-    fn hear(&mut self, judged: Judged) -> io::Result<()>
-        ensures hears { OnOk result (Hears None None (judged ∷ [])) }
-        ensures line { OnOk result (Appends (W.contents self.old.out) (W.contents self.new.out)
-            (row_line self.new.rows (report_text (JudgedReport judged.verdict)))) }
-        ensures counted { self.new.rows ≡ min (self.old.rows + 1) (2 ^ 64 - 1) }
-    {
-        report_older(self.stderr, &judged);
-        let Judged { verdict, .. } = judged;
-        self.rows = self.rows.saturating_add(1);
-        print_row(&mut self.out, self.rows, &Report::Judged(verdict))
-    }
-}
-
-/// Prints the line of the row with this number.
-fn print_row<W: Write>(out: &mut W, number: usize, report: &Report) -> io::Result<()>
-    ensures { OnOk result (Appends (W.contents out.old) (W.contents out.new)
-        (row_line number (report_text report.now))) }
-{
-    writeln!(out, "{number} {report}")?;
-    out.flush()
-}
-
-impl<'a, W: Write + Drop, E: Eprint> Tell for Reports<'a, W, E> {
-    /// Nothing is printed.
-    ghost told = { λ _. None };
-
-    fn tell(&mut self, _: &RecordName, _: &Pushed) -> io::Result<()> {
-        Ok(())
     }
 }

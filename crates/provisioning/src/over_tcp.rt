@@ -12,7 +12,6 @@ use crate::sockets::Remote;
 use crate::sources::Sources;
 use crate::telling::Tell;
 use crate::watching::{Explained, Explaining};
-use connection::TimedHandle;
 use connector_core::Connector;
 use journal_core::Journal;
 use scim_client::ScimService;
@@ -21,6 +20,7 @@ use std::cell::Cell;
 use std::io::{Eprint, Read, Write};
 use std::net::Net;
 use std::time::Clock;
+use timed_streams::TimedHandle;
 
 /// Runs the connector against the provider at an address, HOST:PORT. It prints a line for each record as
 /// soon as the record is done, and reports rows that the connector refuses, and older rows, on standard error.

@@ -7,13 +7,12 @@ ghost use Rattle.provisioning.specs.Records.{PushesRecord, Stands, most_exchange
 use crate::dialing::Dial;
 use crate::faults::{RecordFault, RunFault};
 use crate::turns::{Turn, take_turn};
-use connector_core::Connector;
+use connector_core::{Connector, MOST_EXCHANGES};
 use journal_core::Journal;
 use scim_client::ScimService;
 use scim_key::{Key, RecordName, Revision};
 use std::alloc::Global;
 use std::fmt;
-use world_sim::MOST_EXCHANGES;
 
 /// The state of a record after its exchanges.
 #[derive(Drop)]

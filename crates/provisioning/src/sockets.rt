@@ -1,11 +1,11 @@
 //! Streams to a provider over TCP.
 use crate::dialing::Dial;
-use connection::{Deadline, TimedHandle, timed_handles};
 use std::alloc::Global;
 use std::io;
 use std::io::ErrorKind;
 use std::net::{Net, SocketAddr, TcpStream, ToSocketAddrs};
 use std::time::{Clock, Duration};
+use timed_streams::{Deadline, TimedHandle, timed_handles};
 
 /// How many seconds a connection may take in all, for connector and provider.
 pub const CONNECTION_SECONDS: u64 = 30;
@@ -25,7 +25,7 @@ pub struct Remote<'a, R> {
 }
 
 impl<'a, R: Net + Clock> Remote<'a, R> {
-    pub(crate) fn new(alloc: Global, runtime: &'a R, address: &'a str) -> Self {
+    pub fn new(alloc: Global, runtime: &'a R, address: &'a str) -> Self {
         Remote {
             alloc,
             runtime,

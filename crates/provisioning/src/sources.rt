@@ -6,7 +6,7 @@ ghost use Rattle.provisioning.specs.Sources.{FailsAt, FailsBy, FailsIfNamed, IsR
 
 use crate::files::ReadFiles;
 use scim_key::Kind;
-use source_csv::{Row, RowFault, SourceFault, SourceRows, multiline_records, read_rows};
+use source_csv::{Multiline, Row, RowFault, SourceFault, SourceFile, SourceRows, read_file};
 use std::alloc::{AllocError, Global};
 use std::io;
 use std::io::Eprint;
@@ -17,6 +17,8 @@ pub struct Source {
     pub kind: Kind,
     /// Its records; none if its header isn't that of such a file (S1).
     pub rows: Option<SourceRows>,
+    /// Those with a field over several lines, in order.
+    pub multiline: Vec<Multiline>,
 }
 
 /// The files of a run.
@@ -78,12 +80,17 @@ impl Sources {
 pub fn read_source(alloc: Global, kind: Kind, bytes: &[u8]) -> Result<Source, AllocError>
     ensures { IfOk result (Says kind bytes.now) }
 {
-    match read_rows(alloc, kind, bytes) {
-        Ok(rows) => Ok(Source {
+    match read_file(alloc, kind, bytes) {
+        Ok(SourceFile { rows, multiline }) => Ok(Source {
             kind,
             rows: Some(rows),
+            multiline,
         }),
-        Err(SourceFault::Header) => Ok(Source { kind, rows: None }),
+        Err(SourceFault::Header) => Ok(Source {
+            kind,
+            rows: None,
+            multiline: Vec::new(alloc),
+        }),
         Err(SourceFault::Memory) => Err(AllocError),
     }
 }
@@ -146,9 +153,7 @@ fn told_source<R: ReadFiles + Eprint + AllocGlobal>(
     let bytes = rt.bytes_at(path)?;
     let source = read_source(rt.alloc(), kind, bytes.as_slice())?;
     tell_refused(rt, &source);
-    if source.rows.is_some() {
-        tell_multiline(rt, kind, bytes.as_slice())?;
-    }
+    tell_multiline(rt, &source);
     Ok(source)
 }
 
@@ -176,16 +181,10 @@ fn tell_refused(rt: &impl Eprint, source: &Source) {
     }
 }
 
-/// Reports the records of a file with these bytes that have a field over several lines: a quote may be
-/// missing there.
-fn tell_multiline<R: Eprint + AllocGlobal>(
-    rt: &R,
-    kind: Kind,
-    bytes: &[u8],
-) -> Result<(), AllocError> {
-    let label = label(kind);
-    for found in multiline_records(rt.alloc(), bytes)? {
+/// Reports the records of a file that have a field over several lines: a quote may be missing there.
+fn tell_multiline(rt: &impl Eprint, source: &Source) {
+    let label = label(source.kind);
+    for found in source.multiline.as_slice() {
         let _ = eprintln!(rt; "{label} {found}");
     }
-    Ok(())
 }

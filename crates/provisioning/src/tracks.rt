@@ -11,7 +11,7 @@ use crate::exchanging::{explain, take};
 use crate::faults::{RecordFault, RunFault, open_fault};
 use crate::recording::Recording;
 use crate::records::{Standing, standing_after};
-use connector_core::{Ask, AskFault, Connector};
+use connector_core::{Ask, AskFault, Connector, MOST_EXCHANGES};
 use http_text::{Input, Output};
 use journal_core::Journal;
 use scim_client::{ExchangeFault, ScimService, read_reply};
@@ -19,7 +19,6 @@ use scim_key::RecordName;
 use scim_message::{Answer, Request};
 use std::alloc::Global;
 use std::io::{Read, Write};
-use world_sim::MOST_EXCHANGES;
 
 /// A record, how many exchanges were begun for it, and their last fault.
 #[derive(Drop)]

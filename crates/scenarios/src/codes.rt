@@ -3,11 +3,11 @@ use crate::support::are_printed;
 use connector_core::BookFault;
 use http_text::{ReadFault, SendFault};
 use mapping::{ImageFault, WriteFault};
-use provider_core::{ProviderFault, RegistryFault};
+use provider_core::ProviderFault;
 use scim_client::{AnswerFault, ExchangeFault};
 use scim_filter::FilterFault;
 use scim_http::MeaningFault;
-use scim_key::NameFault;
+use scim_key::{NameFault, StoreFault};
 use scim_message::{BodyFault, Refusal};
 use scim_resource::ContentFault;
 use scim_version::TagFault;
@@ -58,9 +58,9 @@ static MEANING_FAULTS: &[(MeaningFault, &str)] = &[
     (MeaningFault::OutOfMemory, "H13"),
 ];
 
-static REGISTRY_FAULTS: &[(RegistryFault, &str)] = &[
-    (RegistryFault::Store, "store"),
-    (RegistryFault::Memory, "memory"),
+static STORE_FAULTS: &[(StoreFault, &str)] = &[
+    (StoreFault::Store, "store"),
+    (StoreFault::Memory, "memory"),
 ];
 
 static PROVIDER_FAULTS: &[(ProviderFault, &str)] = &[
@@ -162,7 +162,7 @@ fn codes(rt: HostRuntime) {
     are_printed(&rt, rt.alloc(), READ_FAULTS);
     are_printed(&rt, rt.alloc(), SEND_FAULTS);
     are_printed(&rt, rt.alloc(), MEANING_FAULTS);
-    are_printed(&rt, rt.alloc(), REGISTRY_FAULTS);
+    are_printed(&rt, rt.alloc(), STORE_FAULTS);
     are_printed(&rt, rt.alloc(), PROVIDER_FAULTS);
     are_printed(&rt, rt.alloc(), ANSWER_FAULTS);
     are_printed(&rt, rt.alloc(), EXCHANGE_FAULTS);

@@ -2,8 +2,8 @@
 ghost use Rattle.std.specs.Prelude.{[]};
 
 use crate::support::{CREATE_BOB, ends, tells};
-use provider_core::{Provider, Registry, RegistryFault};
-use scim_key::{RecordName, ResourceId};
+use provider_core::{Provider, Registry};
+use scim_key::{RecordName, ResourceId, StoreFault};
 use scim_resource::Stored;
 
 /// Holds one row less than a provider may, until `room` rows were added, and finds no row.
@@ -26,7 +26,7 @@ impl Registry for FullRegistry {
 
     ghost writes = { λ r. r.inserts };
 
-    fn count(&mut self) -> Result<u32, RegistryFault> {
+    fn count(&mut self) -> Result<u32, StoreFault> {
         Ok(if self.inserts < self.room {
             999_999
         } else {
@@ -34,29 +34,29 @@ impl Registry for FullRegistry {
         })
     }
 
-    fn by_key(&mut self, _: &RecordName) -> Result<Option<Stored>, RegistryFault> {
+    fn by_key(&mut self, _: &RecordName) -> Result<Option<Stored>, StoreFault> {
         Ok(None)
     }
 
-    fn count_if_free(&mut self, _: &RecordName) -> Result<Option<u32>, RegistryFault> {
+    fn count_if_free(&mut self, _: &RecordName) -> Result<Option<u32>, StoreFault> {
         Ok(Some(self.count()?))
     }
 
-    fn by_id(&mut self, _: &ResourceId) -> Result<Option<Stored>, RegistryFault> {
+    fn by_id(&mut self, _: &ResourceId) -> Result<Option<Stored>, StoreFault> {
         Ok(None)
     }
 
-    fn scan(&mut self, _: u32, _: usize) -> Result<Vec<Stored>, RegistryFault> {
-        Err(RegistryFault::Memory)
+    fn scan(&mut self, _: u32, _: usize) -> Result<Vec<Stored>, StoreFault> {
+        Err(StoreFault::Memory)
     }
 
-    fn insert(&mut self, _: Stored) -> Result<(), RegistryFault> {
+    fn insert(&mut self, _: Stored) -> Result<(), StoreFault> {
         self.inserts = self.inserts.saturating_add(1);
         Ok(())
     }
 
-    fn update(&mut self, _: &Stored) -> Result<(), RegistryFault> {
-        Err(RegistryFault::Memory)
+    fn update(&mut self, _: &Stored) -> Result<(), StoreFault> {
+        Err(StoreFault::Memory)
     }
 
     ghost is_so = { λ _ faithful. faithful };

@@ -25,11 +25,12 @@ use Rattle.http_text.specs.Message.{NamedValue, values, Length, absent, stated, 
 use Rattle.http_text.specs.declared.fault.ReadFault.{ReadFault}
 use Rattle.http_text.specs.declared.fault.ReadFault.TheVariants.{HostMissingOrRepeated, TransferCoding, Expectation}
 use Rattle.http_text.specs.Judging.{◌>>=◌, refused_where, readable_length, length_wanted, is_any, is_host_wrong}
+use Rattle.http_text.specs.Response.{line_with, written_lines}
 use Rattle.http_text.specs.Texts.{IsFieldLine}
 use Rattle.http_text.proofs.TextLemmas.{IsFieldLine-visible}
 use Rattle.scim_http.specs.Media.{is_type_served}
 use Rattle.scim_http.specs.Meaning.{condition_in, condition_read}
-use Rattle.scim_http.specs.Replies.{line_with, written_lines, stated_type}
+use Rattle.scim_http.specs.Replies.{stated_type}
 use Rattle.scim_http.proofs.NumberLemmas.{all_digits}
 use Rattle.scim_client.specs.Requests.{condition_value, lines_of}
 use Rattle.scim_client.specs.Spelling.{HasEntityTags, HasSomeTag}

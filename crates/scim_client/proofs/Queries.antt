@@ -15,9 +15,9 @@ use Rattle.std.proofs.lemmas.Str.{utf8_lossy-IsUtf8, IsUtf8-from_ascii}
 use Rattle.std.proofs.lemmas.Str.Ascii.{IsAscii-from_all}
 use Rattle.form_urlencoded.specs.Form.{decode, raw_pairs, extend_pairs}
 use Rattle.form_urlencoded.proofs.FormLemmas.{IsBytePair, round_trip}
+use Rattle.http_text.specs.Response.{line_with}
 use Rattle.scim_http.specs.Numbers.{is_digits, digits_in, number_in}
 use Rattle.scim_http.specs.Queries.{pair_of, value_in, parameter}
-use Rattle.scim_http.specs.Replies.{line_with}
 use Rattle.scim_http.specs.Searches.{start_in, count_in, number_read}
 use Rattle.scim_client.specs.Requests.{with_parameter, start_value}
 use Rattle.scim_client.specs.Spelling.{IsShortNumber}

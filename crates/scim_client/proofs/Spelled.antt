@@ -28,11 +28,11 @@ use Rattle.scim_message.specs.declared.refusals.Refusal.TheVariants.{MediaType}
 use Rattle.http_text.specs.Forms.{IsRequestMessage, IsAccepted}
 use Rattle.http_text.specs.Judging.{judge_head}
 use Rattle.http_text.specs.Message.{NamedValue, Head, Message, request_line, values, length_in, stated, absent, body_length, head_limit, body_limit}
+use Rattle.http_text.specs.Response.{written_lines}
 use Rattle.http_text.specs.Texts.{IsTarget, request_text}
 use Rattle.http_text.proofs.TextLemmas as texts
 use Rattle.scim_http.specs.Laws.{resource_path}
 use Rattle.scim_http.specs.Meaning.{IsAsked, routed_asked, collection_asked, resource_request, content_read, condition_in}
-use Rattle.scim_http.specs.Replies.{written_lines}
 use Rattle.scim_http.specs.Routes.{path_of, route_of, collection_path}
 use Rattle.scim_http.specs.Searches.{IsFilter, IsSearch, IsSearchOn, start_in, count_in, start_of, count_of, page_of}
 use Rattle.scim_http.proofs.LocationLaws.{locations_are_routed}

@@ -16,10 +16,11 @@ use Rattle.scim_filter.specs.Expressions.{Expression}
 use Rattle.scim_filter.specs.Texts.{filter_text}
 use Rattle.scim_message.specs.declared.messages.Request.{Request}
 use Rattle.scim_message.specs.declared.messages.Request.TheVariants.{Create, Retrieve, Search, Replace}
+use Rattle.http_text.specs.Response.{Line, written_lines}
 use Rattle.http_text.specs.Texts.{request_text}
 use Rattle.scim_http.specs.Laws.{resource_path}
 use Rattle.scim_http.specs.Media.{media_type}
-use Rattle.scim_http.specs.Replies.{Line, written_lines, stated_type}
+use Rattle.scim_http.specs.Replies.{stated_type}
 use Rattle.scim_http.specs.Routes.{collection_path}
 
 -- ---- the target

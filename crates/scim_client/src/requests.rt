@@ -1,14 +1,14 @@
 //! The bytes of a request (RFC 7644 sections 3.3 to 3.5, RFC 9112 section 3).
-ghost use Rattle.std.specs.Prelude.{◌≡◌, ◌++◌, [], codes, decimal, length, map, IfOk, IfSome, OnOk, option_map, string_bytes};
+ghost use Rattle.std.specs.Prelude.{◌≡◌, ◌++◌, ℕ, List, [], codes, decimal, length, map, IfOk, IfSome, OnOk, option_map, string_bytes};
+ghost use Rattle.std.specs.Cow.{cow_str_bytes};
 ghost use Rattle.std.specs.Fmt.{signed_decimal};
 ghost use Rattle.std.specs.List.{AllByRecursion, flat_map, join_by};
 ghost use Rattle.std.specs.Option.{option_map_or};
-ghost use Rattle.http_text.specs.Response.{named_value};
+ghost use Rattle.http_text.specs.Response.{line_of};
 ghost use Rattle.scim_version.specs.declared.conditions.Condition.TheVariants.{Always};
 ghost use Rattle.scim_version.specs.Tags.{IsEntityTag};
 ghost use Rattle.scim_filter.specs.Texts.{filter_text};
 ghost use Rattle.scim_http.specs.Laws as paths;
-ghost use Rattle.scim_http.specs.Replies.{line_with, written_lines};
 ghost use Rattle.scim_http.specs.Routes as routes;
 ghost use Rattle.scim_client.specs.Requests as spec;
 ghost use Rattle.scim_client.specs.Spelling.{HasEntityTags, HasLawfulTarget, IsFilterText, IsIdText, IsSentContent, IsWritable, KeepsLimits, SpellsRequest};
@@ -17,12 +17,22 @@ use form_urlencoded::Serializer;
 use http_text::{FieldLine, write_request};
 use itoa::Buffer;
 use scim_filter::Filter;
-use scim_http::{MEDIA_TYPE, push_line, stated_type};
+use scim_http::{MEDIA_TYPE, collection_path, stated_type};
 use scim_key::{Base, Kind, ResourceId};
 use scim_message::Request;
 use scim_resource::{Content, location};
 use scim_version::{Condition, EntityTag};
 use std::alloc::{AllocError, Global};
+use std::borrow::CowStr;
+
+/// How many bytes are reserved for the target of a search; most targets need fewer.
+const TARGET_ROOM: usize = 512;
+
+/// How many bytes a path has in front of an id, at most.
+const PATH_ROOM: usize = 16;
+
+/// How many field lines a request may have.
+const FIELD_LINES: usize = 7;
 
 /// The bytes of a request to the service at this base.
 pub(crate) fn bytes_of(alloc: Global, base: &Base, request: &Request) -> Result<Vec<u8>, AllocError>
@@ -36,12 +46,11 @@ pub(crate) fn bytes_of(alloc: Global, base: &Base, request: &Request) -> Result<
     let if_none_match = condition_value(alloc, if_none_match_of(request))?;
     let mut buffer = Buffer::new();
     let fields = fields_of(
-        alloc,
         base.authority(),
         length_of(lent(&body), &mut buffer),
         lent(&if_match),
         lent(&if_none_match),
-    )?;
+    );
     write_request(
         alloc,
         method_of(request),
@@ -72,28 +81,25 @@ fn lent(bytes: &Option<Vec<u8>>) -> Option<&[u8]>
 
 /// The field lines of a request; each is there if it has a value.
 fn fields_of<'a>(
-    alloc: Global,
     host: &'a [u8],
     length: Option<&'a [u8]>,
     if_match: Option<&'a [u8]>,
     if_none_match: Option<&'a [u8]>,
-) -> Result<Vec<FieldLine<'a>>, AllocError>
-    ensures { IfOk result (λ fields. map named_value fields.items
-        ≡ written_lines
-        (spec.lines_of host.now (option_map (λ t. t.now) length.entry)
+) -> [FieldLine<'a>; FIELD_LINES]
+    ensures { map line_of result
+        ≡ spec.lines_of host.now (option_map (λ t. t.now) length.entry)
         (option_map (λ t. t.now) if_match.entry)
-        (option_map (λ t. t.now) if_none_match.entry))) }
+        (option_map (λ t. t.now) if_none_match.entry) }
 {
-    let media_type = stated_type(length);
-    let mut fields = Vec::new(alloc);
-    push_line(&mut fields, "Host", Some(host))?;
-    push_line(&mut fields, "Accept", Some(MEDIA_TYPE))?;
-    push_line(&mut fields, "Connection", Some(b"close"))?;
-    push_line(&mut fields, "Content-Length", length)?;
-    push_line(&mut fields, "Content-Type", media_type)?;
-    push_line(&mut fields, "If-Match", if_match)?;
-    push_line(&mut fields, "If-None-Match", if_none_match)?;
-    Ok(fields)
+    [
+        FieldLine::new("Host", Some(host)),
+        FieldLine::new("Accept", Some(MEDIA_TYPE)),
+        FieldLine::new("Connection", Some(b"close")),
+        FieldLine::new("Content-Length", length),
+        FieldLine::new("Content-Type", stated_type(length)),
+        FieldLine::new("If-Match", if_match),
+        FieldLine::new("If-None-Match", if_none_match),
+    ]
 }
 
 fn length_of<'a>(body: Option<&[u8]>, buffer: &'a mut Buffer) -> Option<&'a [u8]>
@@ -204,33 +210,38 @@ fn sent(body: Option<&[u8]>) -> &[u8]
     body.unwrap_or_default()
 }
 
-fn target_of(alloc: Global, base: &Base, request: &Request) -> Result<String, AllocError>
-    ensures text { IfOk result (λ text. string_bytes text ≡ spec.target_text request.now) }
+fn target_of(
+    alloc: Global,
+    base: &Base,
+    request: &Request,
+) -> Result<CowStr<'static, Global>, AllocError>
+    ensures text { IfOk result (λ text. cow_str_bytes text ≡ spec.target_text request.now) }
     ensures lawful { OnOk result (HasLawfulTarget request.now) }
 {
     match request {
-        Request::Create { content } => { String::from_str(alloc, collection_path(content.kind())) }
-        Request::Retrieve { kind, id, .. } => resource_path(alloc, base, *kind, id),
+        Request::Create { content } => Ok(CowStr::Borrowed(collection_path(content.kind()))),
+        Request::Retrieve { kind, id, .. } => resource_target(alloc, base, *kind, id),
         Request::Search {
             kind,
             filter,
             start,
             count,
-        } => {
-            let query = query_of(alloc, filter.as_ref(), *start, *count)?;
-            search_target(alloc, *kind, query.as_str())
-        }
-        Request::Replace { id, content, .. } => { resource_path(alloc, base, content.kind(), id) }
+        } => search_target(alloc, *kind, filter.as_ref(), *start, *count),
+        Request::Replace { id, content, .. } => resource_target(alloc, base, content.kind(), id),
     }
 }
 
-fn collection_path(kind: Kind) -> &'static str
-    ensures { result.now ≡ routes.collection_path kind }
+/// The path of a resource as a target.
+fn resource_target(
+    alloc: Global,
+    base: &Base,
+    kind: Kind,
+    id: &ResourceId,
+) -> Result<CowStr<'static, Global>, AllocError>
+    ensures path { IfOk result (λ text. cow_str_bytes text ≡ paths.resource_path kind id.now) }
+    ensures lawful { OnOk result (IsIdText id.now) }
 {
-    match kind {
-        Kind::User => "/v2/Users",
-        Kind::Group => "/v2/Groups",
-    }
+    Ok(CowStr::Owned(resource_path(alloc, base, kind, id)?))
 }
 
 /// The path of a resource: its location without the origin.
@@ -244,38 +255,28 @@ fn resource_path(
     ensures lawful { OnOk result (IsIdText id.now) }
 {
     let uri = location(alloc, base, kind, id)?;
-    let mut path = String::with_capacity(alloc, id.as_str().len())?;
+    let mut path = String::with_capacity(alloc, id.as_str().len().saturating_add(PATH_ROOM))?;
     path.push_str("/v2")?;
     path.push_str(&uri.as_str()[base.as_str().len()..])?;
     Ok(path)
 }
 
-/// The path of a collection, and the query if it isn't empty.
-fn search_target(alloc: Global, kind: Kind, query: &str) -> Result<String, AllocError>
-    ensures { IfOk result (λ text. string_bytes text
-        ≡ spec.with_query (routes.collection_path kind) query.now) }
-{
-    let mut target = String::from_str(alloc, collection_path(kind))?;
-    if !query.is_empty() {
-        target.push_str("?")?;
-        target.push_str(query)?;
-    }
-    Ok(target)
-}
-
-/// The parameters of a search that have a value, as a form writes them.
-fn query_of(
+/// The path of a collection, and the query if it isn't empty: the parameters that have a value, as a form
+/// writes them.
+fn search_target(
     alloc: Global,
+    kind: Kind,
     filter: Option<&Filter>,
     start: i64,
     count: Option<i64>,
-) -> Result<String, AllocError>
-    ensures text { IfOk result (λ text. string_bytes text
-        ≡ spec.query_text (option_map (λ t. t.now) filter.entry) start count) }
+) -> Result<CowStr<'static, Global>, AllocError>
+    ensures text { IfOk result (λ text. cow_str_bytes text
+        ≡ spec.with_query (routes.collection_path kind)
+        (spec.query_text (option_map (λ t. t.now) filter.entry) start count)) }
     ensures lawful { OnOk result (IfSome (option_map (λ t. t.now) filter.entry) IsFilterText) }
 {
     let filter = filter_text_of(alloc, filter)?;
-    let mut form = Serializer::new(String::new(alloc));
+    let mut form = form_after(alloc, collection_path(kind))?;
     push_parameter(&mut form, "filter", lent_text(&filter))?;
     push_parameter(
         &mut form,
@@ -283,7 +284,31 @@ fn query_of(
         start_value(start, &mut Buffer::new()),
     )?;
     push_parameter(&mut form, "count", count_value(count, &mut Buffer::new()))?;
-    Ok(form.finish())
+    Ok(without_mark(collection_path(kind), form.finish()))
+}
+
+/// An empty form behind a path and a `?`.
+fn form_after(alloc: Global, path: &str) -> Result<Serializer, AllocError>
+    ensures { IfOk result
+        (λ form. form ≡ record { prefix = path.now ++ codes "?"; form = [] }) }
+{
+    let mut target = String::with_capacity(alloc, TARGET_ROOM)?;
+    target.push_str(path)?;
+    target.push_str("?")?;
+    let start = target.len();
+    Ok(Serializer::for_suffix(target, start))
+}
+
+/// The path alone if no query follows the `?` of this target.
+fn without_mark(path: &'static str, target: String) -> CowStr<'static, Global>
+    ensures { (query : List ℕ) → string_bytes target ≡ (path.now ++ codes "?") ++ query
+        → cow_str_bytes result ≡ spec.with_query path.now query }
+{
+    if target.len().saturating_sub(path.len()) == 1 {
+        CowStr::Borrowed(path)
+    } else {
+        CowStr::Owned(target)
+    }
 }
 
 /// Adds a parameter, if it has a value.

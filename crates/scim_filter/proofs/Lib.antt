@@ -10,3 +10,4 @@ pub mod Spelling
 pub mod Stepwise
 pub mod Strings
 pub mod Values
+pub mod Written

@@ -18,6 +18,9 @@ use thiserror::Error;
 /// The most bytes that a filter's text may have.
 pub const TEXT_LIMIT: usize = 2_048;
 
+/// The initial capacity of a filter's text, in bytes; a filter of one name has fewer.
+const TEXT_ROOM: usize = 256;
+
 /// Why a text isn't a filter.
 #[derive(Clone, Copy, Debug, PartialEq, Eq, Error)]
 pub enum FilterFault {
@@ -124,7 +127,7 @@ impl Filter {
         ensures spells { IfOk result (λ s. length (string_bytes s) ≤ text_limit
             → nesting self.now ≤ depth_limit → Spells (string_bytes s) self.now) }
     {
-        let mut out = String::new(alloc);
+        let mut out = String::with_capacity(alloc, TEXT_ROOM)?;
         write_filter(alloc, &mut out, &self.root)?;
         Ok(out)
     }

@@ -1,5 +1,5 @@
 //! Writes a filter as text.
-ghost use Rattle.std.specs.Prelude.{◌≡◌, ◌++◌, IfOk, OnOk, List, ℕ, string_bytes, codes};
+ghost use Rattle.std.specs.Prelude.{◌≡◌, ◌++◌, OnOk, List, ℕ, string_bytes, codes};
 ghost use Rattle.json.specs.Print.{quoted};
 ghost use Rattle.scim_filter.specs.Expressions.{expression_of};
 ghost use Rattle.scim_filter.specs.Texts.{text_attribute_name, flag_attribute_name, attribute_name, operator_name, truth_name, test_text, is_either, is_joined, in_parentheses_if, filter_text};
@@ -7,8 +7,9 @@ ghost use Rattle.scim_filter.specs.Grammar.{as_text};
 
 use crate::filters::Node;
 use crate::terms::{Attribute, FlagAttribute, FlagOperator, Test, TextAttribute, TextOperator};
-use serde_json::Value;
+use json::Writer;
 use std::alloc::{AllocError, Global};
+use std::mem;
 
 fn text_attribute_name(attribute: TextAttribute) -> &'static str
     ensures { result.now ≡ text_attribute_name attribute }
@@ -72,12 +73,15 @@ fn truth_name(value: bool) -> &'static str
     if value { "true" } else { "false" }
 }
 
-/// A text as a JSON string.
-fn quoted(alloc: Global, text: &str) -> Result<String, AllocError>
-    ensures { IfOk result (λ s. string_bytes s ≡ quoted text.now) }
+/// Appends a text as a JSON string. Out of memory leaves nothing in `out`.
+fn write_quoted(alloc: Global, out: &mut String, text: &str) -> Result<(), AllocError>
+    ensures { OnOk result (string_bytes out.new ≡ string_bytes out.old ++ quoted text.now) }
 {
-    let value = Value::String(String::from_str(alloc, text)?);
-    value.to_string(alloc)
+    let written = mem::replace(out, String::new(alloc));
+    let mut writer = Writer::new(written.into_bytes());
+    writer.string(text)?;
+    *out = String::from_utf8(writer.into_inner()).unwrap();
+    Ok(())
 }
 
 fn write_test(alloc: Global, out: &mut String, test: &Test) -> Result<(), AllocError>
@@ -93,8 +97,7 @@ fn write_test(alloc: Global, out: &mut String, test: &Test) -> Result<(), AllocE
             out.push_str(" ")?;
             out.push_str(operator_name(*operator))?;
             out.push_str(" ")?;
-            let text = quoted(alloc, text.as_str())?;
-            out.push_str(text.as_str())
+            write_quoted(alloc, out, text.as_str())
         }
         Test::Flag(attribute, operator, value) => {
             out.push_str(flag_attribute_name(*attribute))?;

@@ -8,8 +8,8 @@ use Rattle.httparse.specs.Grammar.{print_response}
 use Rattle.scim_key.specs.declared.records.Kind.{Kind}
 use Rattle.scim_message.specs.declared.messages.Answer.TheVariants.{NotModified, Error}
 use Rattle.scim_message.specs.Bodies.{body_text, error_data, error_message}
-use Rattle.http_text.specs.Response.{response_text}
-use Rattle.scim_http.specs.Replies.{written_lines, lines_of, answer_text, fixed_text}
+use Rattle.http_text.specs.Response.{response_text, written_lines}
+use Rattle.scim_http.specs.Replies.{lines_of, answer_text, fixed_text}
 use Rattle.scim_http.specs.Laws.{fixed_error, not_modified_text, RepliesAreLawful}
 
 five_hundred : decimal 500 ≡ codes "500"

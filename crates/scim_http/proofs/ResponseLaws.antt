@@ -26,11 +26,11 @@ use Rattle.http_text.specs.declared.fault.ReadFault.TheVariants.{Malformed}
 use Rattle.http_text.specs.Message.{status_line, NamedValue, values, Length, stated, length_in, is_length, body_length, head_limit, field_limit, response_body_limit}
 use Rattle.http_text.specs.Judging.{◌>>=◌, refused_where, readable_length, is_any, response_length}
 use Rattle.http_text.specs.Forms.{IsResponseMessage}
-use Rattle.http_text.specs.Response.{response_text}
+use Rattle.http_text.specs.Response.{line_with, response_text, written_lines}
 use Rattle.http_text.specs.Texts.{IsFieldLine}
 use Rattle.http_text.proofs.TextLemmas.{IsFieldLine-visible}
 use Rattle.http_text.proofs.TextLemmas as texts
-use Rattle.scim_http.specs.Replies.{line_with, written_lines, lines_of, stated_type, value_if}
+use Rattle.scim_http.specs.Replies.{lines_of, stated_type, value_if}
 use Rattle.scim_http.specs.Laws.{AnswersAreResponses}
 use Rattle.scim_http.proofs.NumberLemmas.{all_digits}
 

@@ -18,12 +18,12 @@ use Rattle.scim_message.specs.declared.refusals.Refusal.{Refusal}
 use Rattle.scim_message.specs.Refusals.{ErrorRecord}
 use Rattle.http_text.specs.Message.{Message, status_line, head_limit, response_body_limit}
 use Rattle.http_text.specs.Forms.{IsResponseMessage}
-use Rattle.http_text.specs.Response.{response_text}
+use Rattle.http_text.specs.Response.{response_text, written_lines}
 use Rattle.scim_http.specs.declared.routes.Route.TheVariants.{Resource}
 use Rattle.scim_http.specs.Routes.{route_of}
 use Rattle.scim_http.specs.Segments.{SpellsText, unescaped}
 use Rattle.scim_http.specs.Meaning.{Asks}
-use Rattle.scim_http.specs.Replies.{written_lines, answer_lines, answer_text, fixed_text}
+use Rattle.scim_http.specs.Replies.{answer_lines, answer_text, fixed_text}
 
 -- A message has only one meaning: no text spells two filters, so the message alone decides what is asked
 abbrev pub OneMeaning : Type 0

@@ -1,37 +1,17 @@
 -- Answers as responses.
 use Rattle.std.specs.Prelude.{ℕ, Bool, true, false, List, [], ◌∷◌, Option, Some, None, length, codes}
 use Rattle.std.specs.Fmt.{decimal}
-use Rattle.std.specs.List.{flat_map}
-use Rattle.scim_resource.specs.Contents.{content_kind}
-use Rattle.scim_resource.specs.Locations.{location_text}
 use Rattle.scim_message.specs.declared.messages.Answer.{Answer}
 use Rattle.scim_message.specs.declared.messages.Answer.TheVariants.{Created, Found, Replaced, NotModified, Error}
 use Rattle.scim_message.specs.declared.messages.Answer.TheVariants as answers
 use Rattle.scim_message.specs.Messages.{answer_status}
-use Rattle.http_text.specs.Message.{NamedValue}
-use Rattle.http_text.specs.Response.{response_text}
-use Rattle.scim_message.specs.Bodies.{body_text}
+use Rattle.http_text.specs.Response.{Line, written_lines, response_text}
+use Rattle.scim_message.specs.Bodies.{answer_location, body_text}
 use Rattle.scim_http.specs.Media.{media_type}
-
--- a field line, which is written if it has a value
-abbrev pub Line : Type 0
-Line = List ℕ × Option (List ℕ)
-
-abbrev pub line_with : List ℕ → Option (List ℕ) → List NamedValue
-line_with name None = []
-line_with name (Some value) = (name, value) ∷ []
-
-abbrev pub written_lines : List Line → List NamedValue
-written_lines lines = flat_map (λ (line : Line). line_with line.0 line.1) lines
 
 -- the URI of the resource that an answer shows or is about, if it is about one
 abbrev pub shown_location : List ℕ → Answer → Option (List ℕ)
-shown_location base (Created shown) = Some (location_text base (content_kind shown.content) shown.id)
-shown_location base (Found shown) = Some (location_text base (content_kind shown.content) shown.id)
-shown_location base (Replaced shown) = Some (location_text base (content_kind shown.content) shown.id)
-shown_location base (answers.List list) = None
-shown_location base (NotModified kind id version) = Some (location_text base kind id)
-shown_location base (Error error) = None
+shown_location base answer = answer_location base answer
 
 -- the entity tag of the resource that an answer is about, if it is known
 abbrev pub shown_tag : Answer → Option (List ℕ)

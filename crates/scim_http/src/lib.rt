@@ -14,10 +14,11 @@ mod routes;
 mod searches;
 mod segments;
 
-pub use field_lines::{MEDIA_TYPE, push_line, stated_type};
+pub use field_lines::{MEDIA_TYPE, stated_type};
 pub use laws::{
     answers_are_responses, locations_are_routed, one_meaning, replies_are_lawful,
     segments_are_spelled,
 };
 pub use replies::{Reply, fixed_response, response_of};
 pub use requests::{MeaningFault, meaning};
+pub use routes::collection_path;

@@ -2,22 +2,22 @@
 ghost use Rattle.std.specs.Prelude.{◌≡◌, ◌++◌, map, false, IfOk, OnOk, string_bytes};
 ghost use Rattle.std.specs.Option.{option_map};
 ghost use Rattle.std.specs.Str.{IsUtf8};
-ghost use Rattle.http_text.specs.Response.{named_value};
+ghost use Rattle.http_text.specs.Response.{line_of};
 ghost use Rattle.scim_message.specs.Bodies.{body_text};
 ghost use Rattle.scim_message.specs.Fitting.{ShowsLawfully};
 ghost use Rattle.scim_message.specs.Messages.{answer_status};
 ghost use Rattle.scim_http.specs.Replies as spec;
 
-use crate::field_lines::{push_line, stated_type};
+use crate::field_lines::stated_type;
 use http_text::{FieldLine, StatusCode, write_response};
 use itoa::Buffer;
 use scim_key::Base;
-use scim_message::{Answer, body_of};
-use scim_resource::{Shown, location};
+use scim_message::{Answer, body_at, location_of};
+use scim_resource::Shown;
 use std::alloc::{AllocError, Global};
 use std::marker::Model;
 
-/// The most field lines of a response.
+/// How many field lines a response may have.
 const FIELD_LINES: usize = 6;
 
 /// A response as it is sent: its status code and its bytes.
@@ -105,12 +105,11 @@ fn text_of(
     ensures lawful { OnOk result (ShowsLawfully answer.now) }
     ensures utf8 { OnOk result (IsUtf8 (body_text base.now answer.now)) }
 {
-    let body = body_of(alloc, answer, base)?;
     let location = location_of(alloc, answer, base)?;
+    let body = body_at(alloc, answer, base, location.as_deref())?;
     let mut buffer = Buffer::new();
     let length = buffer.format(body.len());
     let fields = fields_of(
-        alloc,
         if has_body(answer) {
             Some(length.as_bytes())
         } else {
@@ -119,50 +118,31 @@ fn text_of(
         bytes_of(&location),
         tag_of(answer),
         is_created(answer),
-    )?;
+    );
     let sent = unless_left_out(leaves_body_out, &body);
     write_response(alloc, status_of(answer), &fields, sent)
 }
 
-/// The field lines of a response.
+/// The field lines of a response; each is there if it has a value.
 fn fields_of<'a>(
-    alloc: Global,
     length: Option<&'a [u8]>,
     location: Option<&'a [u8]>,
     tag: Option<&'a [u8]>,
     created: bool,
-) -> Result<Vec<FieldLine<'a>>, AllocError>
-    ensures { IfOk result (λ fields. map named_value fields.items
-        ≡ spec.written_lines
-        (spec.lines_of (option_map (λ t. t.now) length.entry)
+) -> [FieldLine<'a>; FIELD_LINES]
+    ensures { map line_of result
+        ≡ spec.lines_of (option_map (λ t. t.now) length.entry)
         (option_map (λ t. t.now) location.entry)
-        (option_map (λ t. t.now) tag.entry) created)) }
+        (option_map (λ t. t.now) tag.entry) created }
 {
-    let media_type = stated_type(length);
-    let created_at = if created { location } else { None };
-    let mut fields = Vec::with_capacity(alloc, FIELD_LINES)?;
-    push_line(&mut fields, "Connection", Some(b"close"))?;
-    push_line(&mut fields, "Content-Length", length)?;
-    push_line(&mut fields, "Content-Location", location)?;
-    push_line(&mut fields, "Content-Type", media_type)?;
-    push_line(&mut fields, "ETag", tag)?;
-    push_line(&mut fields, "Location", created_at)?;
-    Ok(fields)
-}
-
-/// The URI of the resource that an answer shows or is about, if it is about one.
-fn location_of(alloc: Global, answer: &Answer, base: &Base) -> Result<Option<String>, AllocError>
-    ensures { IfOk result
-        (λ text. option_map string_bytes text ≡ spec.shown_location base.now answer.now) }
-{
-    match answer {
-        Answer::Created(shown) | Answer::Found(shown) | Answer::Replaced(shown) => {
-            let text = location(alloc, base, shown.content().kind(), shown.id())?;
-            Ok(Some(text))
-        }
-        Answer::NotModified { kind, id, .. } => Ok(Some(location(alloc, base, *kind, id)?)),
-        Answer::List(_) | Answer::Error(_) => Ok(None),
-    }
+    [
+        FieldLine::new("Connection", Some(b"close")),
+        FieldLine::new("Content-Length", length),
+        FieldLine::new("Content-Location", location),
+        FieldLine::new("Content-Type", stated_type(length)),
+        FieldLine::new("ETag", tag),
+        FieldLine::new("Location", if created { location } else { None }),
+    ]
 }
 
 fn bytes_of(text: &Option<String>) -> Option<&[u8]>

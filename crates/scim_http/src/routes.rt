@@ -59,19 +59,19 @@ pub(crate) fn route_of(alloc: Global, target: &[u8]) -> Result<Option<Route>, Al
 fn route_in(alloc: Global, kind: Kind, path: &[u8]) -> Result<Option<Route>, AllocError>
     ensures { IfOk result (λ route. route ≡ spec.route_in kind path.now) }
 {
-    match after(collection_path(kind), path) {
+    match after(collection_path(kind).as_bytes(), path) {
         Some(rest) => route_from(alloc, kind, rest),
         None => Ok(None),
     }
 }
 
 /// The path of a collection.
-fn collection_path(kind: Kind) -> &'static [u8]
+pub fn collection_path(kind: Kind) -> &'static str
     ensures { result.now ≡ spec.collection_path kind }
 {
     match kind {
-        Kind::User => b"/v2/Users",
-        Kind::Group => b"/v2/Groups",
+        Kind::User => "/v2/Users",
+        Kind::Group => "/v2/Groups",
     }
 }
 

@@ -1,4 +1,3 @@
-pub mod Firsts
 pub mod Lists
 pub mod Parts
 pub mod RepeatedNames

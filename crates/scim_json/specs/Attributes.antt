@@ -11,11 +11,6 @@ unfoldable pub named : List ℕ → Members → Option Data
 named name no_members = None
 named name (member k d ms) = if same_name k name then Some d else named name ms
 
--- the first value under a name, after one more member
-abbrev pub first_of : List ℕ → Option Data → List ℕ → Data → Option Data
-first_of name (Some first) k d = Some first
-first_of name None k d = if same_name k name then Some d else None
-
 -- `null` and the empty text
 abbrev pub is_empty : Data → Bool
 is_empty null = true

@@ -30,19 +30,8 @@ fn named<'v>(members: &'v Map<String, Value>, name: &str) -> Option<&'v Value>
     None
 }
 
-/// Keeps the value of the first member with this name, in any case, among the members that are handed over
-/// one after the other.
-pub fn keep_first<'v>(first: &mut Option<&'v Value>, name: &str, key: &str, value: &'v Value)
-    ensures { option_map (λ v. view v.now) first.new
-        ≡ spec.first_of name.now (option_map (λ v. view v.now) first.old) key.now (view value.now) }
-{
-    if first.is_none() && same_name(key, name) {
-        *first = Some(value);
-    }
-}
-
 /// The value of an attribute. `null` and the empty text count as absent.
-pub fn present(value: Option<&Value>) -> Option<&Value>
+fn present(value: Option<&Value>) -> Option<&Value>
     ensures { option_map (λ v. view v.now) result
         ≡ spec.present (option_map (λ v. view v.now) value.entry) }
 {

@@ -8,9 +8,7 @@ mod parsing;
 mod values;
 mod writing;
 
-pub use attributes::{
-    attribute, keep_first, list_repeats, present, repeats, same_name, value_repeats,
-};
+pub use attributes::{attribute, list_repeats, repeats, same_name, value_repeats};
 pub use laws::plain_text_reads_back;
 pub use parsing::{JsonFault, json_of};
 pub use values::{ValueFault, flag_or, items_in, lists_text, members_in, text_of, whole_in};

@@ -1,11 +1,18 @@
 -- What a call of any store keeps, what a stop of the program may leave, and which faults the store counts.
 use Rattle.std.specs.Prelude.{◌≡◌, ◌⊎◌, ℕ, ◌+◌, ◌-◌, ◌^◌, ◌<◌, ◌≤◌, Result, OnOk, OnErr, MatchResult}
+use Rattle.scim_key.specs.declared.stores.StoreFault.{StoreFault}
+use Rattle.scim_key.specs.declared.stores.StoreFault.TheVariants.{Store, Memory}
 
 -- ---- counts
 
 -- a count rose, or has reached its greatest value
 abbrev pub HasRisen : ℕ → ℕ → Type 0
 HasRisen old new = (old < new) ⊎ (2 ^ 64 - 1 ≤ new)
+
+-- a fault of the store is counted; out of memory isn't
+abbrev pub CountsFault : (old new : ℕ) → StoreFault → Type 0
+CountsFault old new Store = (old ≤ new) × HasRisen old new
+CountsFault old new Memory = new ≡ old
 
 -- if a call succeeds, the count of faults stays
 abbrev pub CountsFaults : {T F : Type 0} → (counts : ℕ → ℕ → F → Type 0) → (old new : ℕ) → Result T F → Type 0

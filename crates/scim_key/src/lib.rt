@@ -1,4 +1,4 @@
-//! Names, keys, ids, the base of a service, and revisions of the source.
+//! Names, keys, ids, the base of a service, revisions of the source, and the faults of stores.
 #![tactic(auto)]
 
 mod bases;
@@ -7,6 +7,7 @@ mod identifiers;
 mod names;
 mod records;
 mod revisions;
+mod stores;
 mod user_names;
 
 pub use bases::{AUTHORITY_LIMIT, BASE_LIMIT, Base, bases_are_spelled};
@@ -18,4 +19,5 @@ pub use revisions::{
     LAST_EPOCH, LAST_REVISION, REVISION_DIGITS, Revision, revisions_are_ordered,
     revisions_are_read_back,
 };
+pub use stores::StoreFault;
 pub use user_names::UserName;

@@ -7,12 +7,22 @@ use Rattle.serde_json.specs.View.{items_of}
 use Rattle.serde_json.specs.Written.{compact_text}
 use Rattle.scim_json.specs.Writing.{Part, members_from}
 use Rattle.scim_resource.specs.Rows.{ShownRecord}
-use Rattle.scim_resource.specs.Writing.{shown_data}
+use Rattle.scim_resource.specs.Locations.{location_text}
+use Rattle.scim_resource.specs.Writing.{shown_data, shown_location}
 use Rattle.scim_message.specs.Refusals.{ErrorRecord}
 use Rattle.scim_message.specs.declared.lists.ListResponse.{ListResponse}
 use Rattle.scim_message.specs.declared.messages.Answer.{Answer}
 use Rattle.scim_message.specs.declared.messages.Answer.TheVariants.{Created, Found, Replaced, NotModified, Error}
 use Rattle.scim_message.specs.declared.messages.Answer.TheVariants as answers
+
+-- the URI of the resource that an answer shows or is about, if it is about one
+abbrev pub answer_location : List ℕ → Answer → Option (List ℕ)
+answer_location base (Created shown) = Some (shown_location base shown)
+answer_location base (Found shown) = Some (shown_location base shown)
+answer_location base (Replaced shown) = Some (shown_location base shown)
+answer_location base (answers.List list) = None
+answer_location base (NotModified kind id version) = Some (location_text base kind id)
+answer_location base (Error error) = None
 
 -- the URN of an error message
 unfoldable pub error_message : List ℕ

@@ -1,13 +1,13 @@
 //! The bodies of answers.
-ghost use Rattle.std.specs.Prelude.{◌≡◌, Some, IfOk, OnOk, codes};
+ghost use Rattle.std.specs.Prelude.{◌≡◌, Some, IfOk, OnOk, codes, option_map, string_bytes};
 ghost use Rattle.std.specs.Fmt.{decimal};
 ghost use Rattle.std.specs.Str.{IsUtf8};
 ghost use Rattle.serde_json.specs.Data.{array, item, no_items, string};
 ghost use Rattle.serde_json.specs.Written.{compact_text};
 ghost use Rattle.scim_json.specs.Writing.{Writes, WritesPart};
-ghost use Rattle.scim_resource.specs.Writing.{shown_data};
+ghost use Rattle.scim_resource.specs.Writing.{data_at};
 ghost use Rattle.scim_message.specs.Fitting.{AreLawful, IsLawful, ShowsLawfully};
-ghost use Rattle.scim_message.specs.Bodies.{body_text, error_data, error_message, list_data, list_message, page_data};
+ghost use Rattle.scim_message.specs.Bodies.{answer_location, body_text, error_data, error_message, list_data, list_message, page_data};
 
 use crate::lists::ListResponse;
 use crate::messages::Answer;
@@ -15,7 +15,7 @@ use crate::refusals::ErrorResponse;
 use json::Writer;
 use scim_json::{TEXT_ROOM, write_text_if, write_whole};
 use scim_key::Base;
-use scim_resource::Shown;
+use scim_resource::{Shown, location};
 use std::alloc::{AllocError, Global};
 
 /// The body of an answer by a service at this base, in UTF-8. It is empty for `NotModified`.
@@ -24,9 +24,25 @@ pub fn body_of(alloc: Global, answer: &Answer, base: &Base) -> Result<Vec<u8>, A
     ensures utf8 { IfOk result (λ body. IsUtf8 body.items) }
     ensures lawful { OnOk result (ShowsLawfully answer.now) }
 {
+    let location = location_of(alloc, answer, base)?;
+    body_at(alloc, answer, base, location.as_deref())
+}
+
+/// The body of an answer, as `body_of` gives it, if the location of the answer is there already.
+pub fn body_at(
+    alloc: Global,
+    answer: &Answer,
+    base: &Base,
+    location: Option<&str>,
+) -> Result<Vec<u8>, AllocError>
+    requires { option_map (λ t. t.now) location ≡ answer_location base.now answer.now }
+    ensures text { IfOk result (λ body. body.items ≡ body_text base.now answer.now) }
+    ensures utf8 { IfOk result (λ body. IsUtf8 body.items) }
+    ensures lawful { OnOk result (ShowsLawfully answer.now) }
+{
     match answer {
         Answer::Created(shown) | Answer::Found(shown) | Answer::Replaced(shown) => {
-            shown_text(alloc, shown, base)
+            shown_text(alloc, shown, location.unwrap())
         }
         Answer::List(list) => list_text(alloc, list, base),
         Answer::NotModified { .. } => Ok(Vec::new(alloc)),
@@ -34,14 +50,33 @@ pub fn body_of(alloc: Global, answer: &Answer, base: &Base) -> Result<Vec<u8>, A
     }
 }
 
+/// The URI of the resource that an answer shows or is about, if it is about one.
+pub fn location_of(
+    alloc: Global,
+    answer: &Answer,
+    base: &Base,
+) -> Result<Option<String>, AllocError>
+    ensures { IfOk result
+        (λ text. option_map string_bytes text ≡ answer_location base.now answer.now) }
+{
+    match answer {
+        Answer::Created(shown) | Answer::Found(shown) | Answer::Replaced(shown) => {
+            Ok(Some(shown.location(alloc, base)?))
+        }
+        Answer::NotModified { kind, id, .. } => Ok(Some(location(alloc, base, *kind, id)?)),
+        Answer::List(_) | Answer::Error(_) => Ok(None),
+    }
+}
+
 #[tactic(auto, using(scim_json::proofs::Written::written_text))]
-fn shown_text(alloc: Global, shown: &Shown, base: &Base) -> Result<Vec<u8>, AllocError>
-    ensures text { IfOk result (λ text. text.items ≡ compact_text (shown_data base.now shown.now)) }
+fn shown_text(alloc: Global, shown: &Shown, location: &str) -> Result<Vec<u8>, AllocError>
+    ensures text { IfOk result
+        (λ text. text.items ≡ compact_text (data_at location.now shown.now)) }
     ensures utf8 { IfOk result (λ text. IsUtf8 text.items) }
     ensures lawful { OnOk result (IsLawful shown.now) }
 {
     let mut out = Writer::new(Vec::with_capacity(alloc, TEXT_ROOM)?);
-    shown.write(alloc, base, &mut out)?;
+    shown.write_at(location, &mut out)?;
     Ok(out.into_inner())
 }
 

@@ -10,6 +10,7 @@ use scim_resource::{Content, Shown};
 use scim_version::{Condition, EntityTag};
 
 /// What a client asks of the provider.
+#[derive(Drop)]
 pub enum Request {
     /// A new resource (section 3.3).
     Create {
@@ -39,34 +40,8 @@ pub enum Request {
     },
 }
 
-/// Dropping a request is one call, and not a step for each part of each variant.
-impl Drop for Request {
-    fn drop(self) {
-        match self {
-            Request::Create { content: _ } => {}
-            Request::Retrieve {
-                kind: _,
-                id: _,
-                if_match: _,
-                if_none_match: _,
-            } => {}
-            Request::Search {
-                kind: _,
-                filter: _,
-                start: _,
-                count: _,
-            } => {}
-            Request::Replace {
-                id: _,
-                content: _,
-                if_match: _,
-                if_none_match: _,
-            } => {}
-        }
-    }
-}
-
 /// What the provider answers.
+#[derive(Drop)]
 pub enum Answer {
     /// The new resource.
     Created(Shown),
@@ -84,22 +59,6 @@ pub enum Answer {
     },
     /// Why the request was refused.
     Error(ErrorResponse),
-}
-
-/// Dropping an answer is one call, as for a request.
-impl Drop for Answer {
-    fn drop(self) {
-        match self {
-            Answer::Created(_) | Answer::Found(_) | Answer::Replaced(_) => {}
-            Answer::List(_) => {}
-            Answer::NotModified {
-                kind: _,
-                id: _,
-                version: _,
-            } => {}
-            Answer::Error(_) => {}
-        }
-    }
 }
 
 impl Answer {

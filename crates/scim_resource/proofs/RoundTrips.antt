@@ -12,7 +12,7 @@ use Rattle.scim_resource.specs.Reading.{content_from, content_in, read_content}
 use Rattle.scim_resource.specs.Rows.{ShownRecord}
 use Rattle.scim_resource.specs.declared.contents.Content.{Content}
 use Rattle.scim_resource.specs.declared.contents.Content.TheVariants.{User, Group}
-use Rattle.scim_resource.specs.Writing.{resource_data, content_data, meta_parts, meta_data, shown_data}
+use Rattle.scim_resource.specs.Writing.{resource_data, content_data, meta_parts, meta_data, shown_location, shown_data}
 use Rattle.scim_resource.proofs.GroupTrips.{group_data_read, group_data_plain, group_data_depth}
 use Rattle.scim_resource.proofs.UserTrips.{user_data_read, user_data_plain, user_data_depth}
 
@@ -41,9 +41,9 @@ content_sent c h text = ap (content_from (content_kind c)) (json_of-utf8 _ text 
 
 -- ---- resources that are shown
 
-meta_plain : (base : List ℕ) (s : ShownRecord) → IsPlain (meta_data base s)
+meta_plain : (location : List ℕ) (s : ShownRecord) → IsPlain (meta_data location s)
 unfolding meta_data
-meta_plain base s = MembersArePlain-members_from (meta_parts base s) refl (tt, (tt, (version_plain s.version, tt)))
+meta_plain location s = MembersArePlain-members_from (meta_parts location s) refl (tt, (tt, (version_plain s.version, tt)))
   where
     version_plain : (v : Option (List ℕ)) → IsPlainIf (option_map string v)
     version_plain None = tt
@@ -53,17 +53,17 @@ version_depth : (v : Option (List ℕ)) → depth_if (option_map string v) ≤ 1
 version_depth None = omega arith
 version_depth (Some v) = omega arith
 
-meta_depth : (base : List ℕ) (s : ShownRecord) → depth (meta_data base s) ≤ 2
+meta_depth : (location : List ℕ) (s : ShownRecord) → depth (meta_data location s) ≤ 2
 unfolding meta_data
-meta_depth base s =
-    let within : AreWithin 1 (meta_parts base s) = (omega arith, (omega arith, (version_depth s.version, tt))) in
-    omega (arith, members_depth-members_from 1 (meta_parts base s) within)
+meta_depth location s =
+    let within : AreWithin 1 (meta_parts location s) = (omega arith, (omega arith, (version_depth s.version, tt))) in
+    omega (arith, members_depth-members_from 1 (meta_parts location s) within)
 
 pub shown_plain : (base : List ℕ) (s : ShownRecord) → IsContent s.content → IsPlain (shown_data base s)
-shown_plain base s h = resource_plain (Some (string s.id)) (Some (meta_data base s)) s.content h tt (meta_plain base s)
+shown_plain base s h = resource_plain (Some (string s.id)) (Some (meta_data (shown_location base s) s)) s.content h tt (meta_plain (shown_location base s) s)
 
 pub shown_depth : (base : List ℕ) (s : ShownRecord) → depth (shown_data base s) ≤ 3
-shown_depth base s = resource_depth (Some (string s.id)) (Some (meta_data base s)) s.content (omega arith) (meta_depth base s)
+shown_depth base s = resource_depth (Some (string s.id)) (Some (meta_data (shown_location base s) s)) s.content (omega arith) (meta_depth (shown_location base s) s)
 
 pub shown_spelled : (base : List ℕ) (s : ShownRecord) → IsContent s.content → read (compact_text (shown_data base s)) ≡ Some (shown_data base s)
 shown_spelled base s h = read-compact_text (shown_data base s) (shown_plain base s h) (omega (arith, shown_depth base s))

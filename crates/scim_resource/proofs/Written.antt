@@ -17,7 +17,7 @@ use Rattle.scim_resource.specs.UserTexts.{UserTexts, has_some, name_of, text_at}
 use Rattle.scim_resource.specs.Users.{UserRecord}
 use Rattle.scim_resource.specs.declared.emails.Email.{Email}
 use Rattle.scim_resource.specs.declared.user_texts.UserText.{UserText}
-use Rattle.scim_resource.specs.Writing.{Extension, urn_if, urns_of, urn_tokens, schemas_data, group_parts, group_data, group_front, group_back, group_members_data, member_data, user_parts, user_data, user_front, user_back, text_parts, object_if, email_parts, email_data, primary_data, emails_data, meta_parts, meta_data, shown_location}
+use Rattle.scim_resource.specs.Writing.{Extension, urn_if, urns_of, urn_tokens, schemas_data, group_parts, group_data, group_front, group_back, group_members_data, member_data, user_parts, user_data, user_front, user_back, text_parts, object_if, email_parts, email_data, primary_data, emails_data, meta_parts, meta_data}
 
 pub user_closed : {E : Type 0} (r : Result (Unit {0}) E) (id meta : Option Data) (u : UserRecord) (a b c d e f g : Written) → Adds (begin_object ∷ []) a b → WritesParts (user_front u) b c
     → WritesPart (codes "id") id c d → WritesPart (codes "meta") meta d e → WritesParts (user_back u) e f → token.Writes r f g end_object
@@ -48,15 +48,15 @@ group_closed r id meta o a b c d e f g h first front named members shown back la
 three : (a b c : List Token) → a ++ (b ++ (c ++ [])) ≡ a ++ (b ++ c)
 three a b c = simp append-nil
 
-pub meta_closed : {E : Type 0} (r : Result (Unit {0}) E) (base : List ℕ) (s : ShownRecord) (a b c d e f : Written) → Adds (begin_object ∷ []) a b
-    → WritesPart (codes "location") (Some (string (shown_location base s))) b c → WritesPart (codes "resourceType") (Some (string (type_name (content_kind s.content)))) c d
-    → WritesPart (codes "version") (option_map string s.version) d e → token.Writes r e f end_object → OnOk r (Writes (meta_data base s) a f)
+pub meta_closed : {E : Type 0} (r : Result (Unit {0}) E) (location : List ℕ) (s : ShownRecord) (a b c d e f : Written) → Adds (begin_object ∷ []) a b
+    → WritesPart (codes "location") (Some (string location)) b c → WritesPart (codes "resourceType") (Some (string (type_name (content_kind s.content)))) c d
+    → WritesPart (codes "version") (option_map string s.version) d e → token.Writes r e f end_object → OnOk r (Writes (meta_data location s) a f)
 unfolding meta_data
-meta_closed r base s a b c d e f first place name version last =
-    let p = part_tokens (codes "location") (Some (string (shown_location base s))) in
+meta_closed r location s a b c d e f first place name version last =
+    let p = part_tokens (codes "location") (Some (string location)) in
     let n = part_tokens (codes "resourceType") (Some (string (type_name (content_kind s.content)))) in
     let v = part_tokens (codes "version") (option_map string s.version) in
-    object_closed r (meta_parts base s) (p ++ (n ++ v)) a b e f (three p n v) first (then p (n ++ v) b c e place (then n v c d e name version)) last
+    object_closed r (meta_parts location s) (p ++ (n ++ v)) a b e f (three p n v) first (then p (n ++ v) b c e place (then n v c d e name version)) last
 
 pub email_closed : {E : Type 0} (r : Result (Unit {0}) E) (m : Email) (a b c d e f : Written) → Adds (begin_object ∷ []) a b
     → WritesPart (codes "primary") (primary_data m.primary) b c → WritesPart (codes "type") (option_map string m.type_text) c d → WritesPart (codes "value") (Some (string m.value)) d e

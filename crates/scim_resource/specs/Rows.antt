@@ -24,6 +24,21 @@ pub record IsStored (s : StoredRecord) : Type 0 where
   pub versioned : 1 ≤ s.version
   pub version_within : s.version ≤ last_version
 
+-- a row's number and version alone
+pub record RowVersionRecord : Type 0 where
+  pub number : ℕ
+  pub version : ℕ
+
+pub record IsRowVersion (v : RowVersionRecord) : Type 0 where
+  pub numbered : 1 ≤ v.number
+  pub number_within : v.number ≤ last_number
+  pub versioned : 1 ≤ v.version
+  pub version_within : v.version ≤ last_version
+
+-- the row with this number, version and content
+abbrev pub row_of : RowVersionRecord → Content → StoredRecord
+row_of v content = record { number = v.number; version = v.version; content = content }
+
 -- the id, the entity tag of the version if it is known, and the content
 pub record ShownRecord : Type 0 where
   pub id : List ℕ

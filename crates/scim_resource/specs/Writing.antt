@@ -163,16 +163,21 @@ content_data c = resource_data None None c
 abbrev pub shown_location : List ℕ → ShownRecord → List ℕ
 shown_location base s = location_text base (content_kind s.content) s.id
 
-abbrev pub meta_parts : List ℕ → ShownRecord → List Part
-meta_parts base s =
-    (codes "location", Some (string (shown_location base s)))
+-- `meta` of a resource that is shown at this location
+abbrev pub meta_parts : (location : List ℕ) → ShownRecord → List Part
+meta_parts location s =
+    (codes "location", Some (string location))
     ∷ (codes "resourceType", Some (string (type_name (content_kind s.content))))
     ∷ (codes "version", option_map string s.version)
     ∷ []
 
-unfoldable pub meta_data : List ℕ → ShownRecord → Data
-meta_data base s = object (members_from (meta_parts base s))
+unfoldable pub meta_data : (location : List ℕ) → ShownRecord → Data
+meta_data location s = object (members_from (meta_parts location s))
+
+-- what is shown of a resource at this location
+abbrev pub data_at : (location : List ℕ) → ShownRecord → Data
+data_at location s = resource_data (Some (string s.id)) (Some (meta_data location s)) s.content
 
 -- what an answer shows of a resource
 abbrev pub shown_data : List ℕ → ShownRecord → Data
-shown_data base s = resource_data (Some (string s.id)) (Some (meta_data base s)) s.content
+shown_data base s = data_at (shown_location base s) s

@@ -14,15 +14,13 @@ use crate::texts::Text;
 use crate::writing::{write_id, write_meta_if, write_schemas, write_source};
 use json::Writer;
 use scim_json::{write_text, write_text_if};
-use scim_key::Base;
-use std::alloc::{AllocError, Global};
+use std::alloc::AllocError;
 
 /// Writes the group's attributes, with the id and `meta` of the resource if it is shown.
 pub(crate) fn write_group(
-    alloc: Global,
     out: &mut Writer,
     group: &Group,
-    shown: Option<(&Base, &Shown)>,
+    shown: Option<(&str, &Shown)>,
 ) -> Result<(), AllocError>
     ensures written { OnOk result
         (Writes
@@ -36,7 +34,7 @@ pub(crate) fn write_group(
     write_group_front(out, group)?;
     write_id(out, shown)?;
     write_members(out, group.members())?;
-    write_meta_if(alloc, out, shown)?;
+    write_meta_if(out, shown)?;
     write_group_back(out, group)?;
     out.end_object()
 }

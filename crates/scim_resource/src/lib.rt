@@ -29,7 +29,7 @@ pub use laws::{
     shown_reads_back, text_reads_back,
 };
 pub use locations::location;
-pub use rows::{LAST_VERSION, Shown, Stored, TAG_LIMIT};
+pub use rows::{LAST_VERSION, RowVersion, Shown, Stored, TAG_LIMIT};
 pub use texts::{OptionalText, TEXT_LIMIT, Text};
 pub use user_texts::{TEXT_COUNT, USER_TEXTS, UserText};
 pub use users::User;

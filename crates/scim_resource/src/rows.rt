@@ -4,7 +4,7 @@ ghost use Rattle.std.specs.Option.{option_copied};
 ghost use Rattle.std.specs.Str.{IsUtf8};
 ghost use Rattle.scim_key.specs.Identifiers.{IsId, id_text, last_number};
 ghost use Rattle.scim_version.specs.Tags.{IsEntityTag};
-ghost use Rattle.scim_resource.specs.Rows.{last_version, shown, IsShort, IsShown};
+ghost use Rattle.scim_resource.specs.Rows.{last_version, row_of, shown, IsShort, IsShown};
 
 use crate::contents::Content;
 use scim_key::ResourceId;
@@ -14,6 +14,42 @@ use std::marker::Model;
 
 /// The greatest version of a resource: the last whole number that every JSON reader reads exactly.
 pub const LAST_VERSION: u64 = 9_007_199_254_740_991;
+
+/// The number and the version of a row, without its content.
+#[derive(Drop)]
+pub struct RowVersion {
+    number: u32,
+    version: u64,
+}
+
+impl Model for RowVersion {
+    ghost use Rattle.scim_resource.specs.Rows.{RowVersionRecord, IsRowVersion};
+
+    ghost Value = { RowVersionRecord };
+
+    ghost view = { λ v. record { number = v.number; version = v.version } };
+
+    ghost invariant = { λ v. IsRowVersion (record { number = v.number; version = v.version }) };
+}
+
+impl RowVersion {
+    pub fn new(number: u32, version: u64) -> RowVersion
+        requires numbered { 1 ≤ number }
+        requires number_within { number ≤ last_number }
+        requires versioned { 1 ≤ version }
+        requires version_within { version ≤ last_version }
+        ensures { result ≡ record { number = number; version = version } }
+    {
+        RowVersion { number, version }
+    }
+
+    /// The row with this content.
+    pub fn with_content(&self, content: Content) -> Stored
+        ensures { result ≡ row_of self.now content }
+    {
+        Stored::new(self.number, self.version, content)
+    }
+}
 
 /// A row of the provider: the resource's number in order of creation, from 1 to `LAST_NUMBER`, its
 /// version, from 1 to `LAST_VERSION`, and its content.
@@ -107,7 +143,7 @@ impl Clone for Stored {
 }
 
 /// A resource as an answer shows it: its id, its entity tag if it is known, and its content.
-#[derive(Debug)]
+#[derive(Debug, Drop)]
 pub struct Shown {
     id: ResourceId,
     version: Option<EntityTag>,
@@ -126,17 +162,6 @@ impl Model for Shown {
       version = s.version;
       content = s.content;
     }) };
-}
-
-/// Dropping it is one call, as for a user.
-impl Drop for Shown {
-    fn drop(self) {
-        let Shown {
-            id: _,
-            version: _,
-            content: _,
-        } = self;
-    }
 }
 
 /// The most bytes that the entity tag of a shown resource may have.
@@ -170,6 +195,21 @@ impl Shown {
         })
     }
 
+    /// The row with this content as an answer shows it. The content is moved, not copied.
+    pub fn with_content(
+        alloc: Global,
+        row: &RowVersion,
+        content: Content,
+    ) -> Result<Shown, AllocError>
+        ensures { IfOk result (λ s. s ≡ shown (row_of row.now content)) }
+    {
+        Ok(Shown {
+            id: ResourceId::of_number(alloc, row.number)?,
+            version: Some(EntityTag::of_counter(alloc, row.version)?),
+            content,
+        })
+    }
+
     pub fn id(&self) -> &ResourceId
         ensures { result.now ≡ self.now.id }
     {
@@ -188,5 +228,13 @@ impl Shown {
         ensures { result.now ≡ self.now.content }
     {
         &self.content
+    }
+
+    /// The content alone.
+    pub fn into_content(self) -> Content
+        ensures { result ≡ self.content }
+    {
+        let Shown { content, .. } = self;
+        content
     }
 }

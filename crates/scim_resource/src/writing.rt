@@ -36,17 +36,12 @@ impl Content {
         ensures lawful { OnOk result (IsContent self.now) }
     {
         let mut out = Writer::new(Vec::with_capacity(alloc, TEXT_ROOM)?);
-        self.write(alloc, &mut out, None)?;
+        self.write(&mut out, None)?;
         Ok(out.into_inner())
     }
 
-    /// Writes the content, with the id and `meta` of the resource if a service at this base shows it.
-    fn write(
-        &self,
-        alloc: Global,
-        out: &mut Writer,
-        shown: Option<(&Base, &Shown)>,
-    ) -> Result<(), AllocError>
+    /// Writes the content, with the id and `meta` of the resource if it is shown, at this location.
+    fn write(&self, out: &mut Writer, shown: Option<(&str, &Shown)>) -> Result<(), AllocError>
         ensures written { OnOk result
             (Writes
             (spec.resource_data (option_map (λ s. string s.1.now.id) shown.entry)
@@ -56,8 +51,8 @@ impl Content {
         ensures shown { OnOk result (IfSome shown.entry (λ s. IsShown s.1.now)) }
     {
         match self {
-            Content::User(user) => write_user(alloc, out, user, shown),
-            Content::Group(group) => write_group(alloc, out, group, shown),
+            Content::User(user) => write_user(out, user, shown),
+            Content::Group(group) => write_group(out, group, shown),
         }
     }
 }
@@ -76,18 +71,29 @@ impl Shown {
         ensures lawful { OnOk result (IsContent self.now.content) }
         ensures shown { OnOk result (IsShown self.now) }
     {
-        self.content().write(alloc, out, Some((base, self)))
+        let location = self.location(alloc, base)?;
+        self.write_at(location.as_str(), out)
     }
 
-    fn write_meta(&self, alloc: Global, base: &Base, out: &mut Writer) -> Result<(), AllocError>
+    /// Writes the resource as it is shown at this location.
+    pub fn write_at(&self, location: &str, out: &mut Writer) -> Result<(), AllocError>
         ensures written { OnOk result
-            (WritesPart (codes "meta") (Some (spec.meta_data base.now self.now)) out.old out.new) }
+            (Writes (spec.data_at location.now self.now) out.old out.new) }
+        ensures lawful { OnOk result (IsContent self.now.content) }
+        ensures shown { OnOk result (IsShown self.now) }
+    {
+        self.content().write(out, Some((location, self)))
+    }
+
+    fn write_meta(&self, location: &str, out: &mut Writer) -> Result<(), AllocError>
+        ensures written { OnOk result
+            (WritesPart (codes "meta")
+            (Some (spec.meta_data location.now self.now)) out.old out.new) }
         ensures lawful { OnOk result (IsShown self.now) }
     {
-        let place = self.location(alloc, base)?;
         out.key("meta")?;
         out.begin_object()?;
-        write_text(out, "location", place.as_str())?;
+        write_text(out, "location", location)?;
         write_text(out, "resourceType", type_name(self.content().kind()))?;
         self.write_version(out)?;
         out.end_object()
@@ -107,7 +113,7 @@ impl Shown {
 }
 
 /// Writes the id, if the resource is shown.
-pub(crate) fn write_id(out: &mut Writer, shown: Option<(&Base, &Shown)>) -> Result<(), AllocError>
+pub(crate) fn write_id(out: &mut Writer, shown: Option<(&str, &Shown)>) -> Result<(), AllocError>
     ensures { OnOk result
         (WritesPart (codes "id")
         (option_map (λ s. string s.1.now.id) shown.entry) out.old out.new) }
@@ -120,9 +126,8 @@ pub(crate) fn write_id(out: &mut Writer, shown: Option<(&Base, &Shown)>) -> Resu
 
 /// Writes `meta`, if the resource is shown.
 pub(crate) fn write_meta_if(
-    alloc: Global,
     out: &mut Writer,
-    shown: Option<(&Base, &Shown)>,
+    shown: Option<(&str, &Shown)>,
 ) -> Result<(), AllocError>
     ensures written { OnOk result
         (WritesPart (codes "meta")
@@ -131,16 +136,15 @@ pub(crate) fn write_meta_if(
 {
     match shown {
         None => Ok(()),
-        Some((base, shown)) => shown.write_meta(alloc, base, out),
+        Some((location, shown)) => shown.write_meta(location, out),
     }
 }
 
 /// Writes the user's attributes, with the id and `meta` of the resource if it is shown.
 fn write_user(
-    alloc: Global,
     out: &mut Writer,
     user: &User,
-    shown: Option<(&Base, &Shown)>,
+    shown: Option<(&str, &Shown)>,
 ) -> Result<(), AllocError>
     ensures written { OnOk result
         (Writes
@@ -153,7 +157,7 @@ fn write_user(
     out.begin_object()?;
     write_user_front(out, user)?;
     write_id(out, shown)?;
-    write_meta_if(alloc, out, shown)?;
+    write_meta_if(out, shown)?;
     write_user_back(out, user)?;
     out.end_object()
 }

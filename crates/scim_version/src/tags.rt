@@ -97,13 +97,18 @@ fn is_tag(text: &[u8]) -> bool
     is_quoted_text(without_weakness(text))
 }
 
+/// The initial capacity of a version's tag, in bytes: 20 digits between two quotes at most.
+const VERSION_TAG_ROOM: usize = 22;
+
 /// The strong tag of a version: its number between double quotes.
 fn bytes_of_version(alloc: Global, version: u64) -> Result<Vec<u8>, AllocError>
     ensures { IfOk result (λ bytes. bytes.items ≡ version_tag version) }
 {
     let mut buffer = Buffer::new();
-    let mut bytes = Vec::from_slice(alloc, b"\"")?;
-    bytes.extend_from_slice(buffer.format(version).as_bytes())?;
+    let digits = buffer.format(version).as_bytes();
+    let mut bytes = Vec::with_capacity(alloc, VERSION_TAG_ROOM)?;
+    bytes.push(b'"')?;
+    bytes.extend_from_slice(digits)?;
     bytes.push(b'"')?;
     Ok(bytes)
 }

@@ -1,8 +1,7 @@
 //! Why a run ended early: the part that failed, by its name in the arguments.
 use clap::ArgMatches;
 use commands::words::{address, file, groups, journal as journal_in, to, users};
-use commands::{Cause, CommandFault, Part, Reason, Status, told};
-use provisioning::OWN_ADDRESS;
+use commands::{Cause, CommandFault, OWN_ADDRESS, Part, Reason, Status, told};
 use std::rt::Runtime;
 use storage::{EntryStorage, RowStorage};
 

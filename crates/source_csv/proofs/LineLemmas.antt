@@ -1,14 +1,12 @@
 -- One more byte, one more field, one more record.
-use Rattle.std.proofs.Common.{◌≡◌, ◌==◌, nat_lt, Bool, true, false, ℕ, suc, zero, ◌+◌, ◌<◌, List, [], ◌∷◌, ◌++◌, Option, Some, length, drop, map, max, refl, ap, sym, append_assoc, ◌∙◌, arith, add-one}
-use Rattle.std.proofs.lemmas.Bool.{and_parts}
+use Rattle.std.proofs.Common.{◌≡◌, ◌==◌, nat_lt, true, false, ℕ, suc, zero, ◌+◌, ◌<◌, List, [], ◌∷◌, ◌++◌, length, drop, max, refl, ap, sym, inl, inr, ◌∙◌, arith, add-one}
+use Rattle.std.proofs.lemmas.Bool.{and_parts, cases_Bool}
 use Rattle.std.proofs.lemmas.Bool.Decides.{nat_tests}
+use Rattle.std.specs.Prelude.{option_to_list}
 use Rattle.std.specs.List.{list_all}
 use Rattle.csv.specs.Records.{field_at}
-use Rattle.csv.specs.declared.parser.State.{State}
 use Rattle.source_csv.specs.Fields.{Record, field}
-use Rattle.source_csv.specs.Lines.{Counts, field_lines, line_ends, lines_after_header, record_lines}
-use Rattle.source_csv.specs.Streams.{Takes}
-use Rattle.source_csv.proofs.StreamLemmas.{takes_one}
+use Rattle.source_csv.specs.Lines.{field_lines, line_ends, multiline_at, multiline_from, record_lines}
 
 -- a field whose bytes all come after those that end a line
 pub no_line_end : (text : List ℕ) → list_all (nat_lt 13) text ≡ true → line_ends false text ≡ 0
@@ -35,22 +33,10 @@ one_field_more most fields place less so_far = rw add-one (max_of_three _ _ _ �
 
 -- ---- a file
 
--- a read record, and the lines of its longest field
-pub counts_one : (found : Bool) (fields : Record) (lines : ℕ) (remaining : Option (List ℕ)) (state : State) (records : List Record) → found ≡ true → lines ≡ record_lines fields
-    → Takes found fields remaining state records → Counts (Some lines) remaining state records
-counts_one found fields lines remaining state records one is taken =
-    let (rest, first, left) = takes_one found fields remaining state records one taken in
-    (rest, left, ap (λ (rs : List Record). map record_lines rs) first ∙ ap (λ (n : ℕ). n ∷ map record_lines rest) (sym is))
-
--- one more record after those that were read
-pub push_lines : (items all left rest : List ℕ) (lines : ℕ) → all ≡ items ++ left → left ≡ lines ∷ rest → all ≡ (items ++ lines ∷ []) ++ rest
-push_lines items all left rest lines are first = rw append_assoc (are ∙ ap (λ (l : List ℕ). items ++ l) first)
-
--- the records after the header
-pub after_header : (records : List Record) (header : ℕ) (rest : List ℕ) → map record_lines records ≡ header ∷ rest → lines_after_header records ≡ rest
-after_header [] header rest e = absurd (cc e)
-after_header (r ∷ records) header rest e = cc e
-
-pub no_header : (records : List Record) (lines : List ℕ) → lines ≡ map record_lines records → length lines ≡ 0 → lines_after_header records ≡ []
-no_header [] lines are none = refl
-no_header (r ∷ records) lines are none = absurd (cc (rw are at none))
+-- a record that comes next, and those after it
+pub multiline_more : (place : ℕ) (fields : Record) (more : List ℕ)
+    → multiline_from place (record_lines fields ∷ more) ≡ option_to_list (multiline_at place fields) ++ multiline_from (place + 1) more
+multiline_more place fields more = elim (cases_Bool (nat_lt 1 (record_lines fields))) [
+  | inl several ↦ rw several refl
+  | inr one ↦ rw one refl
+]

@@ -1,6 +1,7 @@
 -- One more record of a file that is read one record at a time.
-use Rattle.std.proofs.Common.{◌≡◌, ℕ, ◌+◌, List, [], ◌∷◌, ◌++◌, Bool, true, false, Option, Some, Result, Ok, Err, refl, ap, sym, inl, inr, append_assoc, ◌∙◌}
+use Rattle.std.proofs.Common.{◌≡◌, ℕ, ◌+◌, List, [], ◌∷◌, ◌++◌, Bool, true, false, Option, Some, Result, Ok, Err, map, refl, ap, sym, inl, inr, append_assoc, ◌∙◌}
 use Rattle.std.proofs.lemmas.Bool.{cases_Bool}
+use Rattle.std.specs.Prelude.{IfOk, option_to_list}
 use Rattle.std.specs.Option.{option_map}
 use Rattle.csv.specs.Reading.{ExplainsRead, Reached, ReadRecord, default_config, has_failed, is_flexible, reader_state, source_of, stops_reader, strip_bom, took_first}
 use Rattle.csv.specs.declared.parser.State.{State}
@@ -10,18 +11,22 @@ use Rattle.csv.specs.declared.error.ErrorKind.TheVariants as kind
 use Rattle.csv.specs.declared.reader.Reader.{Reader}
 use Rattle.csv.proofs.ReadFacts.{rows-end, rows-more}
 use Rattle.source_csv.specs.Fields.{Record}
-use Rattle.scim_key.specs.Outcome.{Gives}
+use Rattle.scim_key.specs.Outcome.{Gives, GivesBy}
 use Rattle.scim_key.specs.declared.records.Kind.{Kind}
 use Rattle.source_csv.specs.Files.{AreRecordsOf, at_place, read_row, rows_from, rows_of}
 use Rattle.source_csv.specs.Opening.{HeaderRead, HeaderUnread, IsReadFault, source_fault}
-use Rattle.source_csv.specs.Streams.{Adds, HasLeft, IsPlain, Leaves, Standing, Takes, last_row, place_after, rows_next}
+use Rattle.source_csv.specs.Streams.{Adds, HasLeft, IsPlain, Leaves, Standing, Takes, last_row, multiline_next, place_after, rows_next}
+use Rattle.source_csv.specs.Lines.{multiline_at, multiline_from, multiline_of, record_lines}
 use Rattle.source_csv.specs.declared.faults.RowFault.{RowFault}
 use Rattle.source_csv.specs.declared.faults.SourceFault.{SourceFault}
 use Rattle.source_csv.specs.declared.faults.SourceFault.TheVariants.{Header, Memory}
+use Rattle.source_csv.specs.declared.files.SourceFile.{SourceFile}
+use Rattle.source_csv.specs.declared.missing_quotes.Multiline.{Multiline}
 use Rattle.source_csv.specs.declared.rows.Row.{Row}
 use Rattle.source_csv.specs.declared.streams.ReadFault.{ReadFault}
 use Rattle.source_csv.specs.declared.streams.ReadFault.TheVariants.{Source, Input}
 use Rattle.source_csv.proofs.FileLemmas.{first_record, no_record}
+use Rattle.source_csv.proofs.LineLemmas.{multiline_more}
 
 -- a read takes the first of the records that are left, or there are none
 pub takes : {R : Type 0} (rem : R → Option (List ℕ)) (a b : Reader R) (fields : Record) (found : Bool) (records : List Record)
@@ -89,16 +94,26 @@ rows_of_first old mid new fields rest records row a b c d e f is first = rw (is,
 left_too : (a b : Standing) (records : List Record) → b.remaining ≡ a.remaining → b.state ≡ a.state → HasLeft a records → HasLeft b records
 left_too a b records same state left = rw (same, state) left
 
-pub adds_one : (old mid new : Standing) (found : Bool) (row : Result Row RowFault) (before after : List (Result Row RowFault)) (records : List Record)
+-- the mark of the first record, and those of the records after it
+marks_of_first : (old mid new : Standing) (rest records : List Record) → mid.place ≡ old.place + 1 → new.place ≡ mid.place → records ≡ mid.fields ∷ rest
+    → multiline_next old records ≡ option_to_list (multiline_at mid.place mid.fields) ++ multiline_next new rest
+marks_of_first old mid new rest records e f first =
+    rw (first, sym e, f) (multiline_more mid.place mid.fields (map record_lines rest))
+
+pub adds_one : (old mid new : Standing) (found : Bool) (row : Result Row RowFault) (before after : List (Result Row RowFault)) (marked marks : List Multiline) (records : List Record)
     → found ≡ true → mid.kind ≡ old.kind → mid.columns ≡ old.columns → mid.place ≡ place_after found old.place → new ≡ record mid { fields = new.fields } → row ≡ last_row mid
-    → after ≡ before ++ row ∷ [] → Takes found mid.fields mid.remaining mid.state records → Adds true old new before after records
-adds_one old mid new found row before after records one kind columns step same is items taken =
+    → after ≡ before ++ row ∷ [] → marks ≡ marked ++ option_to_list (multiline_at mid.place mid.fields) → Takes found mid.fields mid.remaining mid.state records
+    → Adds true old new before after marked marks records
+adds_one old mid new found row before after marked marks records one kind columns step same is items noted taken =
     let (rest, first, left) = takes_one found mid.fields mid.remaining mid.state records one taken in
     let place : mid.place ≡ old.place + 1 = rw one at step in
-    let rows = rows_of_first old mid new mid.fields rest records row kind (ap (λ (s : Standing). s.kind) same) columns (ap (λ (s : Standing). s.columns) same) place (ap (λ (s : Standing). s.place) same) is first in (
+    let stays = ap (λ (s : Standing). s.place) same in
+    let rows = rows_of_first old mid new mid.fields rest records row kind (ap (λ (s : Standing). s.kind) same) columns (ap (λ (s : Standing). s.columns) same) place stays is first in
+    let lines = marks_of_first old mid new rest records place stays first in (
       rest,
       left_too mid new rest (ap (λ (s : Standing). s.remaining) same) (ap (λ (s : Standing). s.state) same) left,
       rw (items, append_assoc) (ap (λ (l : List (Result Row RowFault)). before ++ l) rows),
+      rw (noted, append_assoc) (ap (λ (l : List Multiline). marked ++ l) lines),
     )
 
 -- a read fault in memory is that memory ran out
@@ -113,9 +128,15 @@ not_opened of records (Source Header) is = inr is
 not_opened of records (Source Memory) is = inl refl
 not_opened of records (Input why) is = inl refl
 
--- the rows of a file whose header was read are those of the records that are left
-pub rows_after : (of : Kind) (columns : Record) (remaining : Option (List ℕ)) (state : State) (records : List Record) (result : Result (List (Result Row RowFault)) SourceFault)
+-- what a file says whose header was read is what the records say that are left
+pub rows_after : (of : Kind) (columns : Record) (remaining : Option (List ℕ)) (state : State) (records : List Record) (result : Result SourceFile SourceFault)
     → HeaderRead of records columns remaining state
-    → ((left : List Record) → Leaves remaining state left → Gives Memory result (Ok (rows_from of columns 1 left)))
-    → Gives Memory result (rows_of of records)
+    → ((left : List Record) → Leaves remaining state left → GivesBy (λ said. said.rows) Memory result (Ok (rows_from of columns 1 left)))
+    → GivesBy (λ said. said.rows) Memory result (rows_of of records)
 rows_after of columns remaining state records result (header, rest, first, known, left) rows = rw (first, known) (rows rest left)
+
+pub marks_after : (of : Kind) (columns : Record) (remaining : Option (List ℕ)) (state : State) (records : List Record) (result : Result SourceFile SourceFault)
+    → HeaderRead of records columns remaining state
+    → ((left : List Record) → Leaves remaining state left → IfOk result (λ said. said.multiline.items ≡ multiline_from 1 (map record_lines left)))
+    → IfOk result (λ said. said.multiline.items ≡ multiline_of records)
+marks_after of columns remaining state records result (header, rest, first, known, left) marks = rw first (marks rest left)

@@ -1,9 +1,7 @@
 -- How many lines the fields of a record have.
-use Rattle.std.specs.Prelude.{◌≡◌, ℕ, ◌+◌, ◌==◌, Bool, false, not, ◌&&◌, ◌||◌, List, [], ◌∷◌, ◌++◌, map, max, nat_lt, codes, Option, Some, None, if◌then◌else◌}
+use Rattle.std.specs.Prelude.{ℕ, ◌+◌, ◌==◌, Bool, false, not, ◌&&◌, ◌||◌, List, [], ◌∷◌, ◌++◌, map, max, nat_lt, codes, Option, Some, None, if◌then◌else◌}
 use Rattle.std.specs.Fmt.{decimal}
-use Rattle.csv.specs.declared.parser.State.{State}
 use Rattle.source_csv.specs.Fields.{Record}
-use Rattle.source_csv.specs.Streams.{Leaves}
 use Rattle.source_csv.specs.declared.missing_quotes.Multiline.{Multiline}
 
 -- a byte ends a line: a carriage return, or a line feed that doesn't follow one
@@ -32,12 +30,6 @@ multiline_at place fields =
     if nat_lt 1 (record_lines fields) then Some (record { place = place; lines = record_lines fields }) else None
 
 -- ---- a file
-
--- A step over these records: it counted the lines of the first of them, and the others are left. Or there were none.
-abbrev pub Counts : (lines : Option ℕ) → (remaining : Option (List ℕ)) → State → List Record → Type 0
-Counts (Some lines) remaining state records = (rest : List Record) × Leaves remaining state rest
-    × (map record_lines records ≡ lines ∷ map record_lines rest)
-Counts None remaining state records = records ≡ []
 
 -- for each record after the header
 abbrev pub lines_after_header : List Record → List ℕ

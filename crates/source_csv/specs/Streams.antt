@@ -1,5 +1,5 @@
 -- A file of the source, read one record at a time.
-use Rattle.std.specs.Prelude.{◌≡◌, ℕ, ◌+◌, Bool, true, false, List, [], ◌∷◌, ◌++◌, Option, Some, Result}
+use Rattle.std.specs.Prelude.{◌≡◌, ℕ, ◌+◌, Bool, true, false, List, [], ◌∷◌, ◌++◌, map, Option, Some, Result}
 use Rattle.csv.specs.Reading.{AreRecords, Ready, default_config, is_flexible, reader_config, reader_trim}
 use Rattle.csv.specs.declared.parser.State.{State}
 use Rattle.csv.specs.declared.reader.Reader.{Reader}
@@ -7,7 +7,9 @@ use Rattle.csv.specs.declared.reader.Trim.TheVariants as trim
 use Rattle.scim_key.specs.declared.records.Kind.{Kind}
 use Rattle.source_csv.specs.Fields.{Record}
 use Rattle.source_csv.specs.Files.{at_place, read_row, rows_from}
+use Rattle.source_csv.specs.Lines.{multiline_from, record_lines}
 use Rattle.source_csv.specs.declared.faults.RowFault.{RowFault}
+use Rattle.source_csv.specs.declared.missing_quotes.Multiline.{Multiline}
 use Rattle.source_csv.specs.declared.rows.Row.{Row}
 
 -- a reader that gives each record as it is, with any number of fields
@@ -55,9 +57,15 @@ last_row rows = at_place rows.place (read_row rows.kind rows.columns rows.fields
 abbrev pub rows_next : Standing → List Record → List (Result Row RowFault)
 rows_next rows records = rows_from rows.kind rows.columns (rows.place + 1) records
 
--- A step over these records: it added the row of the first of them, and the others are left. Or there were none.
+-- those of these records that have a field over several lines, if they come next
+abbrev pub multiline_next : Standing → List Record → List Multiline
+multiline_next rows records = multiline_from (rows.place + 1) (map record_lines records)
+
+-- A step over these records: it added the row of the first of them, marked it if it has a field over several lines, and
+-- the others are left. Or there were none.
 abbrev pub Adds : (found : Bool) → (old new : Standing) → (before after : List (Result Row RowFault))
-    → List Record → Type 0
-Adds true old new before after records = (rest : List Record) × HasLeft new rest
+    → (marked marks : List Multiline) → List Record → Type 0
+Adds true old new before after marked marks records = (rest : List Record) × HasLeft new rest
     × (before ++ rows_next old records ≡ after ++ rows_next new rest)
-Adds false old new before after records = (records ≡ []) × (after ≡ before)
+    × (marked ++ multiline_next old records ≡ marks ++ multiline_next new rest)
+Adds false old new before after marked marks records = (records ≡ []) × (after ≡ before) × (marks ≡ marked)

@@ -15,10 +15,10 @@ mod texts;
 mod users;
 
 pub use faults::{RowCode, RowFault, SourceFault};
-pub use files::{SourceRows, files_have_records, read_rows};
+pub use files::{SourceFile, SourceRows, files_have_records, read_file, read_rows};
 pub use groups::{GroupRow, MEMBER_LIMIT};
 pub use headers::{DEPARTMENT_COLUMNS, GROUP_COLUMNS, GROUP_HEADERS, USER_COLUMNS, USER_HEADERS};
-pub use missing_quotes::{Multiline, multiline_at, multiline_records};
+pub use missing_quotes::{Multiline, multiline_at};
 pub use rows::{Row, keys_are_of_names};
 pub use streams::{ReadFault, RowReader};
 pub use texts::{FieldValue, TEXT_FIELD_COUNT, TEXT_FIELDS, TextField, VALUE_LIMIT};

@@ -16,17 +16,17 @@ use Rattle.scim_key.specs.Stores.{HasRisen}
 use Rattle.sql_tables.specs.Faults.{FailsFor, HasFailed, statement_fault}
 use Rattle.sql_tables.specs.Layouts.{IsLaid}
 use Rattle.sql_tables.specs.Statements.{IsGiven, IsQuery}
-use Rattle.sql_tables.specs.declared.statements.StatementFault.{StatementFault}
-use Rattle.sql_tables.specs.declared.statements.StatementFault.TheVariants as statement
+use Rattle.scim_key.specs.declared.stores.StoreFault.{StoreFault}
+use Rattle.scim_key.specs.declared.stores.StoreFault.TheVariants as store
 use Rattle.sql_tables.proofs.Asking.{query_at}
 
-pub fails_by : (P Q : Type 0) → (P → Q) → (fault : StatementFault) → FailsFor P fault → FailsFor Q fault
-fails_by P Q h statement.Store it = h it
-fails_by P Q h statement.Memory it = tt
+pub fails_by : (P Q : Type 0) → (P → Q) → (fault : StoreFault) → FailsFor P fault → FailsFor Q fault
+fails_by P Q h store.Store it = h it
+fails_by P Q h store.Memory it = tt
 
-pub fails_so : (P : Type 0) → P → (fault : StatementFault) → FailsFor P fault
-fails_so P it statement.Store = it
-fails_so P it statement.Memory = tt
+pub fails_so : (P : Type 0) → P → (fault : StoreFault) → FailsFor P fault
+fails_so P it store.Store = it
+fails_so P it store.Memory = tt
 
 pub more : (old mid new : ℕ) → min (old + 1) (2 ^ 64 - 1) ≤ mid → mid ≤ new → HasRisen old new
 more old mid new up later = elim (cases_lt old new) [ inl risen ↦ inl risen | inr rest ↦ inr (omega (arith, up, later, rest)) ]

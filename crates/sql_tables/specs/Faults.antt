@@ -5,11 +5,11 @@ use Rattle.sqlite.specs.declared.error.ErrorCode.TheVariants as code
 use Rattle.sqlite.specs.declared.error.Error.{Error}
 use Rattle.sqlite.specs.declared.error.Error.TheVariants.{SqliteFailure}
 use Rattle.scim_key.specs.Stores.{HasRisen}
-use Rattle.sql_tables.specs.declared.statements.StatementFault.{StatementFault}
-use Rattle.sql_tables.specs.declared.statements.StatementFault.TheVariants.{Store, Memory}
+use Rattle.scim_key.specs.declared.stores.StoreFault.{StoreFault}
+use Rattle.scim_key.specs.declared.stores.StoreFault.TheVariants.{Store, Memory}
 
 -- out of memory, or the store failed
-abbrev pub statement_fault : Error → StatementFault
+abbrev pub statement_fault : Error → StoreFault
 statement_fault (SqliteFailure code.OutOfMemory) = Memory
 statement_fault error = Store
 
@@ -19,6 +19,6 @@ abbrev pub HasFailed : (old new : State) → Type 0
 HasFailed old new = (old.is_open ≡ false) ⊎ (HasRisen old.faults new.faults ⊎ IsSome old.step_limit)
 
 -- a fault that says that the store failed has this cause
-abbrev pub FailsFor : (failure : Type 0) → StatementFault → Type 0
+abbrev pub FailsFor : (failure : Type 0) → StoreFault → Type 0
 FailsFor failure Store = failure
 FailsFor failure Memory = Unit {0}

@@ -4,9 +4,11 @@ ghost use Rattle.sqlite.specs.Held.{state};
 ghost use Rattle.sqlite.specs.State.{Executes, FailsToQuery, HasCleanDisk, Survives};
 ghost use Rattle.sqlite.specs.Values.{bound};
 ghost use Rattle.sqlite_schema.specs.declared.schema.Schema.{Schema as SchemaData};
+ghost use Rattle.sql_tables.specs.Faults.{statement_fault};
 ghost use Rattle.sql_tables.specs.Layouts.{IsLaid};
 ghost use Rattle.sql_tables.specs.Statements.{Answers, Checks, ErrorFailsFor, IsEditText, IsGiven, IsQuery, Keeps, MayLeave, Ran, RanOn, WhileOpen};
 
+use scim_key::StoreFault;
 use sqlite::{Alter, Connection, Error, ErrorCode, Row};
 use sqlite_value::value::ValueRef;
 
@@ -17,23 +19,13 @@ pub trait Layout {
     ghost layout: { form → SchemaData };
 }
 
-/// Why a statement gave no result.
-#[derive(Clone, Copy, Debug, PartialEq, Eq)]
-pub enum StatementFault {
-    Store,
-    Memory,
-}
-
-impl From<Error> for StatementFault {
-    ghost use Rattle.sql_tables.specs.Faults.{statement_fault};
-
-    ghost from_gives = { λ error fault. fault ≡ statement_fault error };
-
-    fn from(error: Error) -> StatementFault {
-        match error {
-            Error::SqliteFailure(ErrorCode::OutOfMemory) => StatementFault::Memory,
-            _ => StatementFault::Store,
-        }
+/// The store's fault for an error of a statement.
+pub fn statement_fault(error: Error) -> StoreFault
+    ensures { result ≡ statement_fault error }
+{
+    match error {
+        Error::SqliteFailure(ErrorCode::OutOfMemory) => StoreFault::Memory,
+        _ => StoreFault::Store,
     }
 }
 

@@ -1,4 +1,3 @@
-mod ServingLemmas
 mod StoreShowingLemmas
 mod JournalShowingLemmas
 mod RenewalLemmas

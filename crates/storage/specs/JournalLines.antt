@@ -6,7 +6,7 @@ use Rattle.scim_key.specs.declared.records.RecordName.{RecordName}
 use Rattle.source_csv.specs.Records.{row_name, row_revision}
 use Rattle.journal_core.specs.Words.{kind_word}
 use Rattle.journal_core.specs.declared.entries.Entry.{Entry}
-use Rattle.storage.specs.Printable.{printable_text}
+use Rattle.journal_core.specs.Printable.{printable_text}
 
 -- the id, or a hyphen if none is known
 abbrev pub id_text : Option (List ℕ) → List ℕ

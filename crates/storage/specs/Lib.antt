@@ -1,11 +1,9 @@
 pub mod Closed
 pub mod StoreOpened
-pub mod Serving
 pub mod StoreLines
 pub mod ShowFaults
 pub mod StoreShowing
 pub mod JournalOpened
-pub mod Printable
 pub mod JournalLines
 pub mod JournalShowing
 pub mod Resetting

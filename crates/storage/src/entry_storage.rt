@@ -8,8 +8,9 @@ ghost use Rattle.storage.specs.JournalOpened.{IsOpenedAt};
 
 use crate::looking::LookFault;
 use crate::reason::DatabaseReason;
-use journal_core::{Journal, JournalFault};
+use journal_core::Journal;
 use journal_store::JournalOpenFault;
+use scim_key::StoreFault;
 
 /// The entries of a connector, opened where they are kept.
 pub trait StoredEntries: Journal {
@@ -20,7 +21,7 @@ pub trait StoredEntries: Journal {
 
     /// Forgets the confirmed revision and the id of each record, by one write: of all records or of none.
     /// The rows stay. Returns how many entries that changes.
-    fn reset(&mut self) -> Result<usize, JournalFault>
+    fn reset(&mut self) -> Result<usize, StoreFault>
         ensures puts { Writes Self.Journal CountsFault self.old self.new
             (forgotten (Self.entries self.old)) result }
         ensures count { Self.is_faithful self.new

@@ -8,8 +8,9 @@ use crate::database::{DatabaseFile, Opening, Remains, connected, fault_of, renew
 use crate::entry_storage::{EntryStorage, StoredEntries};
 use crate::looking::{LookFault, seen_in};
 use crate::reason::DatabaseReason;
-use journal_core::{Journal, JournalFault};
+use journal_core::Journal;
 use journal_store::{JournalOpenFault, SqlJournal, is_older};
+use scim_key::StoreFault;
 use sqlite::{Alter, Connection, Error, File, FileStore};
 use sqlite_disk::{Disk, Files};
 use std::alloc::Global;
@@ -74,7 +75,7 @@ impl<D: Disk + Drop> StoredEntries for SqlJournal<FileStore<D>> {
 
     ghost is_closed = { λ s left. ClosesFiles D.Disk s.conn left };
 
-    fn reset(&mut self) -> Result<usize, JournalFault> {
+    fn reset(&mut self) -> Result<usize, StoreFault> {
         SqlJournal::reset(self)
     }
 

@@ -3,8 +3,7 @@ ghost use Rattle.std.specs.Prelude.{◌≡◌, IfOk, string_bytes};
 ghost use Rattle.storage.specs.JournalLines.{entry_line, id_text};
 ghost use Rattle.storage.specs.Resetting.{reset_line};
 
-use crate::printable::Printable;
-use journal_core::{Entry, kind_word};
+use journal_core::{Entry, Printable, kind_word};
 use scim_key::ResourceId;
 use std::alloc::{AllocError, Global};
 

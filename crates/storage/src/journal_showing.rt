@@ -7,7 +7,7 @@ ghost use Rattle.storage.specs.JournalShowing.{ShowsFrom, WritesEntries};
 use crate::entry_storage::{EntryStorage, StoredEntries};
 use crate::journal_lines::entry_line;
 use crate::shared_ids::report_shared_ids;
-use crate::show_fault::ShowFault;
+use crate::show_fault::{ShowFault, journal_fault};
 use journal_core::{Entry, Journal};
 use std::alloc::Global;
 use std::io::{Eprint, Write};
@@ -42,7 +42,7 @@ pub fn write_entries<J: Journal, W: Write>(
         → OnOk result
         (WritesEntries (J.entries journal.old) (W.contents out.old) (W.contents out.new)) }
 {
-    let entries = journal.load()?;
+    let entries = journal.load().map_err(journal_fault)?;
     write_lines(alloc, entries.as_slice(), out)?;
     out.flush()?;
     Ok(report_shared_ids(stderr, alloc, entries.as_slice())?)

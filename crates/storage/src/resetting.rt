@@ -5,7 +5,7 @@ ghost use Rattle.storage.specs.Resetting.{PrintsReset, ResetsFrom, reset_line};
 
 use crate::entry_storage::{EntryStorage, StoredEntries};
 use crate::journal_lines::reset_line;
-use crate::show_fault::ShowFault;
+use crate::show_fault::{ShowFault, journal_fault};
 use std::alloc::Global;
 use std::io::Write;
 
@@ -32,7 +32,7 @@ fn reset_stored<K: EntryStorage>(storage: &K) -> Result<usize, ShowFault>
     let mut entries = storage.open()?;
     let reset = entries.reset();
     entries.close();
-    Ok(reset?)
+    reset.map_err(journal_fault)
 }
 
 /// Writes the line of a reset, and flushes.

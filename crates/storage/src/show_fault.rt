@@ -3,10 +3,9 @@ ghost use Rattle.std.specs.Prelude.{◌≡◌, ◌≢◌};
 ghost use Rattle.storage.specs.ShowFaults.{journal_fault, registry_fault};
 ghost use Rattle.storage.specs.declared.show_fault.ShowFault.TheVariants.{Memory, Output};
 
-use journal_core::JournalFault;
 use journal_store::JournalOpenFault;
-use provider_core::RegistryFault;
 use provider_store::RegistryOpenFault;
+use scim_key::StoreFault;
 use std::alloc::AllocError;
 use std::io;
 use std::io::ErrorKind;
@@ -38,17 +37,6 @@ impl From<RegistryOpenFault> for ShowFault {
     }
 }
 
-impl From<RegistryFault> for ShowFault {
-    ghost from_gives = { λ registry fault. fault ≡ registry_fault registry };
-
-    fn from(fault: RegistryFault) -> ShowFault {
-        match fault {
-            RegistryFault::Store => ShowFault::Store(RegistryOpenFault::Store),
-            RegistryFault::Memory => ShowFault::Memory,
-        }
-    }
-}
-
 impl From<JournalOpenFault> for ShowFault {
     ghost use Rattle.storage.specs.declared.show_fault.ShowFault.TheVariants.{Journal};
 
@@ -56,17 +44,6 @@ impl From<JournalOpenFault> for ShowFault {
 
     fn from(fault: JournalOpenFault) -> ShowFault {
         ShowFault::Journal(fault)
-    }
-}
-
-impl From<JournalFault> for ShowFault {
-    ghost from_gives = { λ journal fault. fault ≡ journal_fault journal };
-
-    fn from(fault: JournalFault) -> ShowFault {
-        match fault {
-            JournalFault::Store => ShowFault::Journal(JournalOpenFault::Store),
-            JournalFault::Memory => ShowFault::Memory,
-        }
     }
 }
 
@@ -81,6 +58,26 @@ impl From<AllocError> for ShowFault {
 impl From<io::Error> for ShowFault {
     fn from(error: io::Error) -> ShowFault {
         output_fault(error.kind())
+    }
+}
+
+/// The fault for a failed call of the store.
+pub(crate) fn registry_fault(fault: StoreFault) -> ShowFault
+    ensures { result ≡ registry_fault fault }
+{
+    match fault {
+        StoreFault::Store => ShowFault::Store(RegistryOpenFault::Store),
+        StoreFault::Memory => ShowFault::Memory,
+    }
+}
+
+/// The fault for a failed call of the journal.
+pub(crate) fn journal_fault(fault: StoreFault) -> ShowFault
+    ensures { result ≡ journal_fault fault }
+{
+    match fault {
+        StoreFault::Store => ShowFault::Journal(JournalOpenFault::Store),
+        StoreFault::Memory => ShowFault::Memory,
     }
 }
 

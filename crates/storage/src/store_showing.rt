@@ -1,11 +1,12 @@
 //! The rows of a store as lines.
-ghost use Rattle.std.specs.Prelude.{OnOk, take, drop};
+ghost use Rattle.std.specs.Prelude.{◌≡◌, IfOk, OnOk, drop, length, take};
 ghost use Rattle.std.specs.Io.KnownBytes.{Appends};
+ghost use Rattle.provider_core.specs.Rows.{IsNumberedFrom, page_after};
 ghost use Rattle.storage.specs.StoreLines.{lines_of};
 ghost use Rattle.storage.specs.StoreShowing.{ReadsOn, ShowsFrom};
 
 use crate::row_storage::{RowStorage, StoredRows};
-use crate::show_fault::ShowFault;
+use crate::show_fault::{ShowFault, registry_fault};
 use crate::store_lines::row_line;
 use provider_core::{ROWS_AT_ONCE, Registry};
 use scim_resource::Stored;
@@ -51,13 +52,37 @@ fn write_pages<R: Registry, W: Write>(
         → OnOk result
         (Appends (W.contents out.old) (W.contents out.new) (lines_of (R.rows rows.old))) }
 {
-    let all = rows.count()?;
+    let all = count_of(rows)?;
     let mut after = 0;
     while after < all {
         write_page(alloc, rows, after, out)?;
         after = after.saturating_add(ROWS_AT_ONCE);
     }
     Ok(())
+}
+
+/// How many rows there are.
+fn count_of<R: Registry>(rows: &mut R) -> Result<u32, ShowFault>
+    ensures ok { R.is_faithful rows.new → IfOk result (λ n. n ≡ length (R.rows rows.old)) }
+    ensures reads { ReadsOn R.Registry rows.old rows.new }
+{
+    match rows.count() {
+        Ok(count) => Ok(count),
+        Err(fault) => Err(registry_fault(fault)),
+    }
+}
+
+/// Some rows after the first `after`.
+fn page_of<R: Registry>(rows: &mut R, after: u32) -> Result<Vec<Stored>, ShowFault>
+    ensures ok { R.is_faithful rows.new
+        → IfOk result (λ page. page.items ≡ page_after after ROWS_AT_ONCE (R.rows rows.old)) }
+    ensures numbered { R.is_faithful rows.new → IsNumberedFrom 1 (R.rows rows.old) }
+    ensures reads { ReadsOn R.Registry rows.old rows.new }
+{
+    match rows.scan(after, ROWS_AT_ONCE as usize) {
+        Ok(page) => Ok(page),
+        Err(fault) => Err(registry_fault(fault)),
+    }
 }
 
 /// Writes the lines of some rows after the first `after`.
@@ -73,7 +98,7 @@ fn write_page<R: Registry, W: Write>(
         (lines_of (take ROWS_AT_ONCE (drop after (R.rows rows.old))))) }
     ensures reads { ReadsOn R.Registry rows.old rows.new }
 {
-    let page = rows.scan(after, ROWS_AT_ONCE as usize)?;
+    let page = page_of(rows, after)?;
     write_lines(alloc, page.as_slice(), out)
 }
 

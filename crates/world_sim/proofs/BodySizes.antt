@@ -131,11 +131,11 @@ pub record IsBrief (base : List ℕ) (s : ShownRecord) : Type 0 where
   pub id : length s.id ≤ 36
   pub tag : IsWithin 22 s.version
 
-meta_most : (base : List ℕ) (s : ShownRecord) → IsBrief base s → length (compact_text (meta_data base s)) ≤ 1565
+meta_most : (base : List ℕ) (s : ShownRecord) → IsBrief base s → length (compact_text (meta_data (shown_location base s) s)) ≤ 1565
 unfolding meta_data
 meta_most base s brief =
     let location : length (shown_location base s) ≤ 226 = omega (arith, brief.at, brief.id, location_short base (content_kind s.content) s.id) in
-    object_most (members_from (meta_parts base s)) 1564
+    object_most (members_from (meta_parts (shown_location base s) s)) 1564
     (with_part (codes "location") (Some (string (shown_location base s))) _ 10 1358 194 key_location (text_part (Some (shown_location base s)) 226 (within (shown_location base s) 226 location))
     (with_part (codes "resourceType") (Some (string (type_name (content_kind s.content)))) _ 14 32 146 key_resource_type
     (text_part (Some (type_name (content_kind s.content))) 5 (within (type_name (content_kind s.content)) 5 (type_short (content_kind s.content))))
@@ -145,7 +145,7 @@ meta_most base s brief =
 pub shown_most : (base : List ℕ) (s : ShownRecord) → IsBrief base s → length (compact_text (shown_data base s)) ≤ length (compact_text (content_data s.content)) + 1797
 shown_most base s brief =
     let id : length (compact_text (string s.id)) ≤ 218 = omega (arith, quoted_most s.id, brief.id) in
-    resource_more (string s.id) (meta_data base s) 218 1565 id (meta_most base s brief) s.content
+    resource_more (string s.id) (meta_data (shown_location base s) s) 218 1565 id (meta_most base s brief) s.content
 
 -- ---- lists
 

@@ -25,8 +25,9 @@ use Rattle.scim_message.specs.declared.messages.Request.TheVariants.{Create, Ret
 use Rattle.scim_message.specs.declared.messages.Answer.{Answer}
 use Rattle.scim_message.specs.Bodies.{body_text as answer_body}
 use Rattle.scim_message.specs.Messages.{answer_status}
+use Rattle.http_text.specs.Response.{Line, written_lines}
 use Rattle.scim_http.specs.Laws.{resource_path}
-use Rattle.scim_http.specs.Replies.{Line, written_lines, stated_type, lines_of as reply_lines_of, answer_lines, shown_location, shown_tag, is_created, stated_length as reply_length, value_if}
+use Rattle.scim_http.specs.Replies.{stated_type, lines_of as reply_lines_of, answer_lines, shown_location, shown_tag, is_created, stated_length as reply_length, value_if}
 use Rattle.scim_http.specs.Routes.{collection_path}
 use Rattle.scim_client.specs.AnswerLaws.{KeepsAnswerLimits}
 use Rattle.scim_client.specs.Requests.{with_query, target_text, method_text, body_text, stated_length, condition_value, if_match_of, if_none_match_of, lines_of, request_lines}

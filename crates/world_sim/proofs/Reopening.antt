@@ -3,20 +3,20 @@ use Rattle.std.proofs.Common.{◌∙◌, ℕ, Result, Ok, Err, OnOk, sym, subst}
 use Rattle.journal_core.specs.Calls.{OpensAgain, Reads}
 use Rattle.journal_core.specs.Stores.{CountsFault, CountsFaults}
 use Rattle.journal_core.specs.declared.journals.Journal.{Ghosts as Journals}
-use Rattle.journal_core.specs.declared.journals.JournalFault.{JournalFault}
-use Rattle.journal_core.specs.declared.journals.JournalFault.TheVariants as journal
-use Rattle.world_sim.specs.Events.{journal_fault}
+use Rattle.scim_key.specs.declared.stores.StoreFault.{StoreFault}
+use Rattle.scim_key.specs.declared.stores.StoreFault.TheVariants as store
+use Rattle.world_sim.specs.Events.{store_fault}
 use Rattle.world_sim.specs.Sides.{CountsWorldFault}
 use Rattle.world_sim.specs.declared.reports.WorldFault.{WorldFault}
 
-counted_so : (old new : ℕ) (fault : JournalFault) → CountsFault old new fault → CountsWorldFault old new (journal_fault fault)
-counted_so old new journal.Store counts = counts
-counted_so old new journal.Memory counts = counts
+counted_so : (old new : ℕ) (fault : StoreFault) → CountsFault old new fault → CountsWorldFault old new (store_fault fault)
+counted_so old new store.Store counts = counts
+counted_so old new store.Memory counts = counts
 
 module _ {J : Type 0} (h : Journals J) where
   -- the journal wasn't opened
-  pub reopens_failed : (old new : J) (fault : JournalFault) → OpensAgain {T = Unit {0}} h CountsFault old new (Err fault)
-      → OpensAgain {T = Unit {0}} h CountsWorldFault old new (Err (journal_fault fault))
+  pub reopens_failed : (old new : J) (fault : StoreFault) → OpensAgain {T = Unit {0}} h CountsFault old new (Err fault)
+      → OpensAgain {T = Unit {0}} h CountsWorldFault old new (Err (store_fault fault))
   reopens_failed old new fault r = record {
     found = λ _. tt;
     honest = r.honest;

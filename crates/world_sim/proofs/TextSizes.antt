@@ -10,9 +10,8 @@ use Rattle.scim_key.specs.declared.records.Kind.{Kind}
 use Rattle.scim_key.specs.declared.records.Kind.TheVariants as kinds
 use Rattle.scim_resource.specs.Locations.{is_unreserved, escaped_byte, escaped, collection_path, location_text}
 use Rattle.http_text.specs.Message.{NamedValue}
-use Rattle.http_text.specs.Response.{field_line, phrase_of, response_text}
+use Rattle.http_text.specs.Response.{Line, field_line, phrase_of, response_text, written_lines}
 use Rattle.http_text.specs.Texts.{request_text}
-use Rattle.scim_http.specs.Replies.{Line, written_lines}
 
 -- ---- field lines
 

@@ -8,8 +8,8 @@ use Rattle.connector_core.specs.declared.learning.LearnFault.{LearnFault}
 use Rattle.connector_core.specs.declared.learning.LearnFault.TheVariants as learning
 use Rattle.connector_core.specs.declared.opening.ConnectorOpenFault.{ConnectorOpenFault}
 use Rattle.connector_core.specs.declared.opening.ConnectorOpenFault.TheVariants as opening
-use Rattle.journal_core.specs.declared.journals.JournalFault.{JournalFault}
-use Rattle.journal_core.specs.declared.journals.JournalFault.TheVariants as journal
+use Rattle.scim_key.specs.declared.stores.StoreFault.{StoreFault}
+use Rattle.scim_key.specs.declared.stores.StoreFault.TheVariants as store
 use Rattle.world_model.specs.World.{Event, Changes, Sends, Delivers, Cuts, Restarts_provider, Restarts_connector}
 use Rattle.world_model.specs.Reports as model
 use Rattle.world_sim.specs.declared.events.Event.{Event as EventOf}
@@ -66,10 +66,10 @@ abbrev pub world_fault : ProviderFault → WorldFault
 world_fault provider.Store = worlds.Store
 world_fault provider.Memory = worlds.Memory
 
--- the world's fault for a fault of its journal
-abbrev pub journal_fault : JournalFault → WorldFault
-journal_fault journal.Store = worlds.Store
-journal_fault journal.Memory = worlds.Memory
+-- the world's fault for a fault of its store or its journal
+abbrev pub store_fault : StoreFault → WorldFault
+store_fault store.Store = worlds.Store
+store_fault store.Memory = worlds.Memory
 
 -- the world's fault for a fault of opening its connector
 abbrev pub opening_fault : ConnectorOpenFault → WorldFault

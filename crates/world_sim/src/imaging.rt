@@ -15,8 +15,6 @@ ghost use Rattle.world_sim.specs.declared.reports.WorldFault.TheVariants.{Memory
 
 use crate::others::write_request;
 use crate::reports::WorldFault;
-use crate::views::row_of;
-use core::mem::replace_with;
 use mapping::{Ids, ImageFault, row_content};
 use provider_core::{Provider, Registry};
 use scim_key::{Key, Kind, RecordName, ResourceId};
@@ -76,7 +74,7 @@ fn look_up<R: Registry>(
         kind: Kind::User,
         key: key.clone()?,
     };
-    let row = replace_with(provider, &name, row_of)?;
+    let row = provider.row_of(&name)?;
     let id = id_in(alloc, row.as_ref())?;
     ids.insert(name.key, id)?;
     Ok(())
@@ -168,7 +166,7 @@ pub(crate) fn row_request<R: Registry>(
     ensures reads { Reads R.Registry CountsWorldFault provider.old provider.new result }
 {
     let name = row.record_name(alloc)?;
-    let held = replace_with(provider, &name, row_of)?;
+    let held = provider.row_of(&name)?;
     let ids = ids_of(alloc, provider, members_of(row))?;
     request_with(alloc, row, held.as_ref(), &ids)
 }

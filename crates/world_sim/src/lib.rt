@@ -36,7 +36,7 @@ pub use random::random_schedule;
 pub use reports::{Report, WorldFault};
 pub use runs::run;
 pub use schedules::{NUMBER_DIGITS, ScheduleFault, read_acts, read_schedule, said_lines};
-pub use settling::{Count, MOST_EXCHANGES, settle};
+pub use settling::{Count, settle};
 pub use several::{SharedWorld, Turn, TurnReport};
 pub use several_printing::{PrintedSeveral, print_several};
 pub use strangers::{contested, offered};

@@ -7,9 +7,7 @@ ghost use Rattle.world_sim.specs.Running.{opens_of};
 ghost use Rattle.world_sim.specs.declared.reports.WorldFault.TheVariants.{Store};
 
 use crate::reports::WorldFault;
-use crate::views::row_of;
 use crate::worlds::{World, prepared};
-use core::mem::replace_with;
 use journal_core::Journal;
 use provider_core::Registry;
 use scim_message::Request;
@@ -87,7 +85,7 @@ impl<R: Registry + Drop, J: Journal + Drop> World<R, J> {
             return Err(WorldFault::Store);
         }
         let name = content.name(self.alloc)?;
-        let row = replace_with(&mut self.provider, &name, row_of)?;
+        let row = self.provider.row_of(&name)?;
         let request = write_request(self.alloc, row.as_ref(), content)?;
         self.arrive(&request)
     }

@@ -2,9 +2,8 @@
 ghost use Rattle.std.specs.Prelude.{◌≡◌};
 
 use connector_core::{ChangeFault, ConnectorOpenFault, LearnFault, Learnt, Verdict};
-use journal_core::JournalFault;
 use provider_core::ProviderFault;
-use scim_key::Key;
+use scim_key::{Key, StoreFault};
 use std::alloc::{AllocError, AllocFailed};
 use std::fmt;
 use thiserror::Error;
@@ -113,15 +112,15 @@ impl From<ProviderFault> for WorldFault {
     }
 }
 
-impl From<JournalFault> for WorldFault {
-    ghost use Rattle.world_sim.specs.Events.{journal_fault};
+impl From<StoreFault> for WorldFault {
+    ghost use Rattle.world_sim.specs.Events.{store_fault};
 
-    ghost from_gives = { λ from fault. fault ≡ journal_fault from };
+    ghost from_gives = { λ from fault. fault ≡ store_fault from };
 
-    fn from(fault: JournalFault) -> WorldFault {
+    fn from(fault: StoreFault) -> WorldFault {
         match fault {
-            JournalFault::Store => WorldFault::Store,
-            JournalFault::Memory => WorldFault::Memory,
+            StoreFault::Store => WorldFault::Store,
+            StoreFault::Memory => WorldFault::Memory,
         }
     }
 }

@@ -4,13 +4,11 @@ ghost use Rattle.world_sim.specs.Settling.{Settles, SettlesRecord, Stops, TakesS
 
 use crate::reports::{Report, WorldFault};
 use crate::worlds::World;
+use connector_core::MOST_EXCHANGES;
 use journal_core::Journal;
 use provider_core::Registry;
 use scim_key::RecordName;
 use std::fmt;
-
-/// The most exchanges for one record.
-pub const MOST_EXCHANGES: u32 = 3;
 
 /// How many exchanges a run to convergence took.
 #[derive(Clone, Copy)]

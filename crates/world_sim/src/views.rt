@@ -1,20 +1,16 @@
 //! What a world shows of its messages and records.
 ghost use Rattle.std.specs.Prelude.{◌≡◌, IfErr, IfOk, OnOk, true};
 ghost use Rattle.std.specs.Option.{option_copied, option_map};
-ghost use Rattle.provider_core.specs.Calls.{Reads};
-ghost use Rattle.provider_core.specs.Rows.{row_named};
 ghost use Rattle.world_sim.specs.Messages.{text_at, texts_of};
 ghost use Rattle.world_sim.specs.Running.{is_open, names_in};
-ghost use Rattle.world_sim.specs.Sides.{CountsWorldFault};
 ghost use Rattle.world_sim.specs.Views.{IsBlind, IsNoName, Looks, Shows, ShowsMessage, viewed};
 
 use crate::messages::sent_at;
 use crate::reports::WorldFault;
 use crate::sides::Side;
 use crate::worlds::World;
-use core::mem::replace_with;
 use journal_core::{Journal, kind_word};
-use provider_core::{Provider, Registry, RegistryFault};
+use provider_core::Registry;
 use scim_key::{Kind, RecordName, Revision};
 use scim_resource::Stored;
 use std::fmt;
@@ -156,24 +152,6 @@ impl View {
     }
 }
 
-/// The provider's row of a record, if it has one.
-pub(crate) fn row_of<R: Registry>(
-    provider: Provider<R>,
-    name: &RecordName,
-) -> (Provider<R>, Result<Option<Stored>, WorldFault>)
-    ensures ok { R.is_faithful result.0
-        → IfOk result.1 (λ row. row ≡ row_named name.now (R.rows provider)) }
-    ensures reads { Reads R.Registry CountsWorldFault provider result.0 result.1 }
-{
-    let mut registry = provider.close();
-    let row = match registry.by_key(name) {
-        Ok(row) => Ok(row),
-        Err(RegistryFault::Store) => Err(WorldFault::Store),
-        Err(RegistryFault::Memory) => Err(WorldFault::Memory),
-    };
-    (Provider::new(registry), row)
-}
-
 impl<R: Registry + Drop, J: Journal + Drop> World<R, J> {
     /// The bytes of the message with this number. Requests and answers are counted from 1 in the order in
     /// which they were sent.
@@ -216,7 +194,7 @@ impl<R: Registry + Drop, J: Journal + Drop> World<R, J> {
         let wanted = connector.wanted(name);
         let confirmed = connector.confirmed(name);
         let copy = name.clone()?;
-        let row = replace_with(&mut self.provider, name, row_of)?;
+        let row = self.provider.row_of(name)?;
         Ok(View::of(copy, wanted, confirmed, row.as_ref()))
     }
 }

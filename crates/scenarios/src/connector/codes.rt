@@ -1,13 +1,7 @@
-//! The codes that faults of the connector, its journal and a run are printed as.
+//! The codes that faults of the connector and a run are printed as.
 use crate::support::{are_printed, assert_same};
 use connector_core::{AskFault, ChangeFault, ConnectorOpenFault, LearnFault};
-use journal_core::JournalFault;
 use world_sim::{Report, WorldFault};
-
-static JOURNAL_FAULTS: &[(JournalFault, &str)] = &[
-    (JournalFault::Store, "J1"),
-    (JournalFault::Memory, "J3"),
-];
 
 static OPEN_FAULTS: &[(ConnectorOpenFault, &str)] = &[
     (ConnectorOpenFault::Store, "C5"),
@@ -30,7 +24,6 @@ static LEARN_FAULTS: &[(LearnFault, &str)] = &[
 
 #[test]
 fn codes(rt: HostRuntime) {
-    are_printed(&rt, rt.alloc(), JOURNAL_FAULTS);
     are_printed(&rt, rt.alloc(), OPEN_FAULTS);
     are_printed(&rt, rt.alloc(), ASK_FAULTS);
     are_printed(&rt, rt.alloc(), LEARN_FAULTS);

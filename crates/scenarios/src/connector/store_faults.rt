@@ -2,13 +2,13 @@
 //! succeeds. That what is known is as before, and so is the journal, are clauses of these calls.
 ghost use Rattle.std.specs.Prelude.{◌≡◌, true, false, refl};
 ghost use Rattle.journal_core.specs.Stores.{CountsFault};
-ghost use Rattle.journal_core.specs.declared.journals.JournalFault.TheVariants.{Store};
+ghost use Rattle.scim_key.specs.declared.stores.StoreFault.TheVariants.{Store};
 
 use crate::support::{assert_same, assert_that, empty, printed};
-use connector_core::{Ask, Connector};
-use journal_core::{Entry, Journal, JournalFault, MemoryJournal};
+use connector_core::{Ask, Connector, Seen};
+use journal_core::{Entry, Journal, MemoryJournal};
 use provider_core::{MemoryRegistry, Provider};
-use scim_key::{Key, Kind, RecordName, ResourceId, Revision};
+use scim_key::{Key, Kind, RecordName, ResourceId, Revision, StoreFault};
 use source_csv::{Row, read_rows};
 use std::alloc::Global;
 use std::fmt::Display;
@@ -63,30 +63,30 @@ impl Journal for FaultyJournal {
 
     ghost writes = { λ j. j.entries.writes };
 
-    fn load(&mut self) -> Result<Vec<Entry>, JournalFault> {
+    fn load(&mut self) -> Result<Vec<Entry>, StoreFault> {
         match self.entries.load() {
             Ok(list) => Ok(list),
-            Err(_) => Err(JournalFault::Memory),
+            Err(_) => Err(StoreFault::Memory),
         }
     }
 
-    fn put_row(&mut self, row: &Row) -> Result<(), JournalFault> {
+    fn put_row(&mut self, row: &Row) -> Result<(), StoreFault> {
         if self.is_failing() {
-            return Err(JournalFault::Store);
+            return Err(StoreFault::Store);
         }
         match self.entries.put_row(row) {
             Ok(()) => Ok(()),
-            Err(_) => Err(JournalFault::Memory),
+            Err(_) => Err(StoreFault::Memory),
         }
     }
 
-    fn put_rows(&mut self, rows: &[Row]) -> Result<(), JournalFault> {
+    fn put_rows(&mut self, rows: Vec<Row>) -> Result<(), StoreFault> {
         if self.is_failing() {
-            return Err(JournalFault::Store);
+            return Err(StoreFault::Store);
         }
         match self.entries.put_rows(rows) {
             Ok(()) => Ok(()),
-            Err(_) => Err(JournalFault::Memory),
+            Err(_) => Err(StoreFault::Memory),
         }
     }
 
@@ -95,13 +95,13 @@ impl Journal for FaultyJournal {
         name: &RecordName,
         confirmed: Revision,
         id: &ResourceId,
-    ) -> Result<(), JournalFault> {
+    ) -> Result<(), StoreFault> {
         if self.is_failing() {
-            return Err(JournalFault::Store);
+            return Err(StoreFault::Store);
         }
         match self.entries.put_learnt(name, confirmed, id) {
             Ok(()) => Ok(()),
-            Err(_) => Err(JournalFault::Memory),
+            Err(_) => Err(StoreFault::Memory),
         }
     }
 
@@ -217,9 +217,13 @@ fn faults_of(rt: &impl Abort, alloc: Global, left: u64) -> u64 {
         Ok(connector) => connector,
         Err(_) => panic!(rt; "it isn't opened"),
     };
+    assert_that(rt, connector.seen(&bob).is_none());
     offers_row(rt, alloc, &mut connector, "bob,3,,,,,active\n");
+    assert_that(rt, matches!(connector.seen(&bob), Some(Seen::Unknown)));
     exchanges(rt, alloc, &mut connector, &mut provider, &bob);
+    assert_that(rt, matches!(connector.seen(&bob), Some(Seen::Absent)));
     exchanges(rt, alloc, &mut connector, &mut provider, &bob);
+    assert_that(rt, matches!(connector.seen(&bob), Some(Seen::At { .. })));
     offers_rows(
         rt,
         alloc,

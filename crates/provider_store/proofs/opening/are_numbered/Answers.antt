@@ -1,11 +1,9 @@
 use Rattle.std.proofs.Common.{◌≡◌, length, ap, arith, rules, subst, sym, tests}
 use Rattle.sqlite.specs.Held.{state}
 use Rattle.sqlite.specs.State.{HasCleanDisk}
-use Rattle.sql_tables.specs.Faults.{HasFailed, statement_fault as fault_of}
-use Rattle.provider_store.specs.Faults.{statement_fault}
+use Rattle.sql_tables.specs.Faults.{HasFailed, statement_fault}
 use Rattle.provider_store.specs.Opening.{OpenFailsFor}
 use Rattle.provider_store.proofs.Checking.{told_fails}
-use Rattle.provider_store.proofs.Failing.{fails_as}
 use Rattle.provider_store.proofs.Giving.{unnumbered_given}
 use Rattle.provider_store.proofs.Naming.{nothing_in, numbered_found, unnumbered_found}
 use Rattle.provider_store.proofs.Texts.{unnumbered_is}
@@ -36,4 +34,4 @@ returns-in-Ok-clause-some g c clean is numbered =
 pub returns-in-Err-clause-checks : goal.returns-in-Err-clause-checks
 returns-in-Err-clause-checks g c =
     let failure = HasFailed (state g.S.Store c.args.conn.now) (state g.S.Store c.ask.new.conn) in
-    checks_fail _ _ c.in-Err.error c.from.result (λ fails. subst (OpenFailsFor failure) (sym c.from.ensures.0) (told_fails failure (statement_fault c.in-Err.error) (fails_as failure (fault_of c.in-Err.error) fails))) c.in-Err.ensures.checks
+    checks_fail _ _ c.in-Err.error c.from.result (λ fails. subst (OpenFailsFor failure) (sym c.from.ensures.0) (told_fails failure (statement_fault c.in-Err.error) fails)) c.in-Err.ensures.checks

@@ -3,13 +3,11 @@ use Rattle.sqlite.specs.Held.{state}
 use Rattle.sqlite.specs.State.{HasCleanDisk}
 use Rattle.provider_store.proofs.Texts.{outside_is}
 use Rattle.provider_store.proofs.Checking.{rows_fail, told_fails, is_for, outside_found, within_found, beside_found}
-use Rattle.provider_store.specs.Faults.{statement_fault}
 use Rattle.provider_store.specs.Opening.{OpenFailsFor}
-use Rattle.provider_store.proofs.Failing.{fails_as}
 use Rattle.provider_store.proofs.Giving.{outside_given}
 use Rattle.sql_tables.proofs.Values.{bound_int}
 use Rattle.sql_tables.proofs.Results.{on_ok, if_err}
-use Rattle.sql_tables.specs.Faults.{HasFailed, statement_fault as fault_of}
+use Rattle.sql_tables.specs.Faults.{HasFailed, statement_fault}
 use Rattle.sql_tables.proofs.Checking.{checks_by, checks_fail}
 use Rattle.provider_store.proofs.opening.check_rest.Goals as goal
 
@@ -55,4 +53,4 @@ returns-in-Ok-clause-checks g c =
 pub returns-in-Err-clause-checks : goal.returns-in-Err-clause-checks
 returns-in-Err-clause-checks g c =
     let failure = HasFailed (state g.S.Store c.args.conn.now) (state g.S.Store c.ask.new.conn) in
-    checks_fail _ _ c.in-Err.error c.from-in-Err.result (λ fails. subst (OpenFailsFor failure) (sym c.from-in-Err.ensures.0) (told_fails failure (statement_fault c.in-Err.error) (fails_as failure (fault_of c.in-Err.error) fails))) c.in-Err.ensures.checks
+    checks_fail _ _ c.in-Err.error c.from-in-Err.result (λ fails. subst (OpenFailsFor failure) (sym c.from-in-Err.ensures.0) (told_fails failure (statement_fault c.in-Err.error) fails)) c.in-Err.ensures.checks

@@ -3,12 +3,9 @@ use Rattle.sqlite.specs.Held.{state}
 use Rattle.sqlite.specs.State.{HasCleanDisk}
 use Rattle.provider_store.proofs.Texts.{numbered_is}
 use Rattle.provider_store.proofs.Finding.{number_found}
-use Rattle.provider_store.specs.Faults.{FailsFor}
-use Rattle.sql_tables.specs.Faults.{statement_fault}
-use Rattle.provider_store.proofs.Failing.{fails_as}
 use Rattle.provider_store.proofs.Giving.{numbered_given}
 use Rattle.sql_tables.proofs.Values.{bound_int}
-use Rattle.sql_tables.specs.Faults.{HasFailed}
+use Rattle.sql_tables.specs.Faults.{FailsFor, HasFailed}
 use Rattle.sql_tables.proofs.Checking.{checks_fail}
 use Rattle.provider_store.proofs.tables.find_numbered.Goals as goal
 
@@ -27,4 +24,4 @@ ask-requires-clause-given g c = numbered_given (to_z w64 (of_z w64 c.from.result
 pub returns-in-Err-clause-checks : goal.returns-in-Err-clause-checks
 returns-in-Err-clause-checks g c =
     let failure = HasFailed (state g.S.Store c.args.conn.now) (state g.S.Store c.ask.new.conn) in
-    checks_fail _ _ c.in-Err.error c.fault_of.result (λ fails. subst (FailsFor failure) (sym c.fault_of.ensures) (fails_as failure (statement_fault c.in-Err.error) fails)) c.in-Err.ensures.checks
+    checks_fail _ _ c.in-Err.error c.statement_fault.result (λ fails. subst (FailsFor failure) (sym c.statement_fault.ensures) fails) c.in-Err.ensures.checks

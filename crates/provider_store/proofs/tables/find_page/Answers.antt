@@ -4,11 +4,8 @@ use Rattle.sqlite.specs.State.{HasCleanDisk}
 use Rattle.provider_store.proofs.Texts.{page_is}
 use Rattle.provider_store.proofs.Paging.{page_broken, page_found}
 use Rattle.sql_tables.proofs.Values.{bound_int}
-use Rattle.provider_store.specs.Faults.{FailsFor}
-use Rattle.sql_tables.specs.Faults.{statement_fault}
-use Rattle.provider_store.proofs.Failing.{fails_as}
 use Rattle.provider_store.proofs.Giving.{page_given}
-use Rattle.sql_tables.specs.Faults.{HasFailed}
+use Rattle.sql_tables.specs.Faults.{FailsFor, HasFailed}
 use Rattle.sql_tables.proofs.Checking.{checks_fail}
 use Rattle.provider_store.proofs.tables.find_page.Goals as goal
 
@@ -37,4 +34,4 @@ returns-in_ok-read_page-in-Ok-clause-broken g c clean =
 pub returns-in-Err-clause-checks : goal.returns-in-Err-clause-checks
 returns-in-Err-clause-checks g c =
     let failure = HasFailed (state g.S.Store c.args.conn.now) (state g.S.Store c.ask.new.conn) in
-    checks_fail _ _ c.in-Err.error c.fault_of.result (λ fails. subst (FailsFor failure) (sym c.fault_of.ensures) (fails_as failure (statement_fault c.in-Err.error) fails)) c.in-Err.ensures.checks
+    checks_fail _ _ c.in-Err.error c.statement_fault.result (λ fails. subst (FailsFor failure) (sym c.statement_fault.ensures) fails) c.in-Err.ensures.checks

@@ -1,8 +1,7 @@
 use Rattle.std.proofs.Common.{ℕ, List, Option, ap, refl, subst}
 use Rattle.scim_client.specs.Exchanges.{ExchangesKnown, Reads, Sends, SpellsSent}
 use Rattle.scim_client.specs.Requests.{text_of}
-use Rattle.http_text.specs.Counts.{Reading, Writing}
-use Rattle.connection.specs.Turns.{fresh_reading}
+use Rattle.http_text.specs.Counts.{Reading, Writing, fresh_reading}
 use Rattle.provisioning.proofs.exchanging.exchange_on.Goals as goal
 
 pub returns : goal.returns

@@ -1,7 +1,6 @@
 use Rattle.std.proofs.Common.{ℕ, List, Option, ap, subst}
 use Rattle.scim_client.specs.Exchanges.{ExchangesKnown, Reads}
-use Rattle.http_text.specs.Counts.{Reading}
-use Rattle.connection.specs.Turns.{fresh_reading}
+use Rattle.http_text.specs.Counts.{Reading, fresh_reading}
 use Rattle.provisioning.proofs.TrackLemmas.{heard_fault, heard_whole}
 use Rattle.provisioning.proofs.tracks.hear.Goals as goal
 

@@ -2,9 +2,8 @@ use Rattle.std.proofs.Common.{◌≡◌, ap, subst, sym, ◌∙◌, List, ℕ, [
 use Rattle.std.specs.Prelude.{IfOk, decimal, option_map}
 use Rattle.std.specs.Option.{option_map_or}
 use Rattle.scim_key.specs.Bases.{IsAuthority}
-use Rattle.http_text.specs.Response.{named_value}
+use Rattle.http_text.specs.Response.{line_of, written_lines}
 use Rattle.http_text.specs.Texts.{request_text}
-use Rattle.scim_http.specs.Replies.{written_lines}
 use Rattle.scim_http.proofs.SearchLemmas.{if_ok}
 use Rattle.scim_client.specs.Requests.{condition_value, lines_of, request_lines, text_of, stated_length, body_text}
 use Rattle.scim_client.specs.Spelling.{HasEntityTags, HasLawfulParts, SpellsRequest}
@@ -22,8 +21,8 @@ returns c =
     let second = c.lent-3.ensures ∙ c.in_ok-if_none_match.ensures.value ∙ ap condition_value c.if_none_match_of.ensures in
     let method = c.method_of.ensures in
     let target = c.as_str.ensures.value ∙ c.in_ok-target.ensures.text in
-    let fields : map named_value c.deref.result.now ≡ written_lines (request_lines base request) =
-    ap (map named_value) c.deref.ensures.value ∙ c.in_ok-fields.ensures ∙ (λ i. written_lines (lines_of (host i) (long i) (first i) (second i))) in
+    let fields : written_lines (map line_of c.fields_of-fields.result) ≡ written_lines (request_lines base request) =
+    ap written_lines (c.fields_of-fields.ensures ∙ (λ i. lines_of (host i) (long i) (first i) (second i))) in
     let body : c.sent.result.now ≡ body_text request =
     c.sent.ensures ∙ ap (λ t. option_map_or (λ text. text) t []) (c.lent-4.ensures ∙ c.in_ok-body.ensures.text) in
     let whole : IfOk c.write_request.result (λ text. text.items ≡ text_of base request) =

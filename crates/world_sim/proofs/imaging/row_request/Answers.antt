@@ -11,7 +11,7 @@ pub returns-clause-request : goal.returns-clause-request
 returns-clause-request g c = λ faithful.
     let r = g.R.Registry in
     let before = c.args.provider.now in
-    let mid = c.replace_with.new.dest in
+    let mid = c.row_of.new.self in
     let row = c.args.row.now in
     let found = c.in_ok-ids.ids.ids in
     let same : r.is_faithful mid → r.rows mid ≡ r.rows before = search rules in

@@ -14,7 +14,7 @@ use Rattle.connector_core.proofs.connectors.Connector.change_all.Goals as goal
 
 pub invariant_of-self-then-is_empty : goal.invariant_of-self-then-is_empty
 invariant_of-self-then-is_empty g c =
-    let none = sym (nothing c.as_slice-put.result.now (sym c.is_empty.ensures ∙ c.if-is_empty.true)) ∙ c.as_slice-put.ensures.value in
+    let none = sym (nothing c.as_slice.result.now (sym c.is_empty.ensures ∙ c.if-is_empty.true)) ∙ c.as_slice.ensures.value in
     let held = g.J.Journal.entries c.self.inside.journal in
     let are = c.in_ok-said.ensures.ok in (
       (λ faithful. keeps-fresh held c.self.inside.book c.offer.new.book c.args.rows.items c.in_ok-said.field-0 are [] held none refl (c.self.invariant.0 faithful)),
@@ -26,7 +26,7 @@ returns-then-is_empty-clause-kept g c = (invariant_of-self-then-is_empty g c).0
 
 pub returns-then-is_empty-clause-journal : goal.returns-then-is_empty-clause-journal
 returns-then-is_empty-clause-journal g c =
-    let none = sym (nothing c.as_slice-put.result.now (sym c.is_empty.ensures ∙ c.if-is_empty.true)) ∙ c.as_slice-put.ensures.value in
+    let none = sym (nothing c.as_slice.result.now (sym c.is_empty.ensures ∙ c.if-is_empty.true)) ∙ c.as_slice.ensures.value in
     let held = g.J.Journal.entries c.self.inside.journal in
     let said : Result (Vec (Result Verdict ChangeFault) Global) ChangeFault = Ok c.in_ok-said.field-0.said in
     let same = puts-fresh held c.self.inside.book c.offer.new.book c.args.rows.items c.in_ok-said.field-0 c.in_ok-said.ensures.ok [] none in
@@ -37,15 +37,15 @@ returns-then-is_empty-clause-journal g c =
 pub put_rows-requires : goal.put_rows-requires
 put_rows-requires g c =
     let held = g.J.Journal.entries c.self.inside.journal in
-    record { lawful = λ faithful. can-put-fresh held c.self.inside.book c.offer.new.book c.args.rows.items c.in_ok-said.field-0 c.in_ok-said.ensures.ok c.as_slice-put.result.now c.as_slice-put.ensures.value (c.self.invariant.0 faithful) }
+    record { lawful = λ faithful. can-put-fresh held c.self.inside.book c.offer.new.book c.args.rows.items c.in_ok-said.field-0 c.in_ok-said.ensures.ok c.in_ok-said.field-0.fresh.items refl (c.self.invariant.0 faithful) }
 
 pub invariant_of-self-in-Ok-1 : goal.invariant_of-self-in-Ok-1
 invariant_of-self-in-Ok-1 g c =
     let held = g.J.Journal.entries c.self.inside.journal in
     let puts = c.in-Ok.ensures.puts in
     let are = c.in_ok-said.ensures.ok in (
-      (λ faithful. keeps-fresh held c.self.inside.book c.offer.new.book c.args.rows.items c.in_ok-said.field-0 are c.as_slice-put.result.now (g.J.Journal.entries c.put_rows.new.self)
-          c.as_slice-put.ensures.value (puts.done faithful) (c.self.invariant.0 (puts.was faithful))),
+      (λ faithful. keeps-fresh held c.self.inside.book c.offer.new.book c.args.rows.items c.in_ok-said.field-0 are c.in_ok-said.field-0.fresh.items (g.J.Journal.entries c.put_rows.new.self)
+          refl (puts.done faithful) (c.self.invariant.0 (puts.was faithful))),
       located-fresh held c.self.inside.book c.offer.new.book c.args.rows.items c.in_ok-said.field-0 are c.self.invariant.1,
     )
 
@@ -57,7 +57,7 @@ returns-in-Ok-clause-journal g c =
     let held = g.J.Journal.entries c.self.inside.journal in
     let new = c.put_rows.new.self in
     let said : Result (Vec (Result Verdict ChangeFault) Global) ChangeFault = Ok c.in_ok-said.field-0.said in
-    let same = puts-fresh held c.self.inside.book c.offer.new.book c.args.rows.items c.in_ok-said.field-0 c.in_ok-said.ensures.ok c.as_slice-put.result.now c.as_slice-put.ensures.value in
+    let same = puts-fresh held c.self.inside.book c.offer.new.book c.args.rows.items c.in_ok-said.field-0 c.in_ok-said.ensures.ok c.in_ok-said.field-0.fresh.items refl in
     let P : State g.row.J.Denot → Type 0 = λ s. Writes g.J.Journal CountsChange s.journal new (entries_all (g.J.Journal.entries s.journal) s.book c.args.rows.items) said in
     let Q : EntryMap → Type 0 = λ entries. Writes g.J.Journal CountsChange c.self.inside.journal new entries said in
     subst P c.self.view_is (subst Q same
@@ -68,16 +68,16 @@ returns-in-Err-clause-journal g c =
     let held = g.J.Journal.entries c.self.inside.journal in
     let new = c.put_rows.new.self in
     let T : Type 0 = Vec (Result Verdict ChangeFault) Global in
-    let same = puts-fresh held c.self.inside.book c.offer.new.book c.args.rows.items c.in_ok-said.field-0 c.in_ok-said.ensures.ok c.as_slice-put.result.now c.as_slice-put.ensures.value in
+    let same = puts-fresh held c.self.inside.book c.offer.new.book c.args.rows.items c.in_ok-said.field-0 c.in_ok-said.ensures.ok c.in_ok-said.field-0.fresh.items refl in
     let P : State g.row.J.Denot → Type 0 = λ s. Writes {T = T} g.J.Journal CountsChange s.journal new (entries_all (g.J.Journal.entries s.journal) s.book c.args.rows.items) (Err c.from.result) in
     let Q : EntryMap → Type 0 = λ entries. Writes {T = T} g.J.Journal CountsChange c.self.inside.journal new entries (Err c.from.result) in
-    let R : ChangeFault → Type 0 = λ fault. Writes {T = T} g.J.Journal CountsChange c.self.inside.journal new (with_rows held c.as_slice-put.result.now) (Err fault) in
+    let R : ChangeFault → Type 0 = λ fault. Writes {T = T} g.J.Journal CountsChange c.self.inside.journal new (with_rows held c.in_ok-said.field-0.fresh.items) (Err fault) in
     subst P c.self.view_is (subst Q same (subst R (sym c.from.ensures)
     (put-failed g.J.Journal c.self.inside.journal new _ c.in-Err.fault c.in-Err.ensures.puts)))
 
 pub returns-then-is_empty-clause-leaves : goal.returns-then-is_empty-clause-leaves
 returns-then-is_empty-clause-leaves g c = λ honest was.
-    let none = sym (nothing c.as_slice-put.result.now (sym c.is_empty.ensures ∙ c.if-is_empty.true)) ∙ c.as_slice-put.ensures.value in
+    let none = sym (nothing c.as_slice.result.now (sym c.is_empty.ensures ∙ c.if-is_empty.true)) ∙ c.as_slice.ensures.value in
     let are = c.in_ok-said.ensures.ok in
     let W : State g.row.J.Denot → Type 0 = λ s. LeavesBook g.J.Journal s in
     let before = subst W (sym c.self.view_is) was in
@@ -95,7 +95,7 @@ returns-in-Err-clause-leaves g c = λ honest was.
     let h = g.J.Journal in
     let held = h.entries c.self.inside.journal in
     let book = c.self.inside.book in
-    let put = c.as_slice-put.result.now in
+    let put = c.in_ok-said.field-0.fresh.items in
     let are = c.in_ok-said.ensures.ok in
     let W : State g.row.J.Denot → Type 0 = λ s. LeavesBook h s in
     let before = subst W (sym c.self.view_is) was in
@@ -105,7 +105,7 @@ returns-in-Err-clause-leaves g c = λ honest was.
       | inl old ↦ inl (before found old)
       | inr new ↦
           let B : BookMap → Type 0 = λ b. AreOf found (book_of b) (keys b) in
-          let kept = keeps-fresh held book c.offer.new.book c.args.rows.items c.in_ok-said.field-0 are put found c.as_slice-put.ensures.value new.1 (c.self.invariant.0 new.0) in
+          let kept = keeps-fresh held book c.offer.new.book c.args.rows.items c.in_ok-said.field-0 are put found refl new.1 (c.self.invariant.0 new.0) in
           inr (subst B are.taken (are-of found c.offer.new.book kept))
     ] in
     record { done = tt; failed = subst P c.self.view_is left }

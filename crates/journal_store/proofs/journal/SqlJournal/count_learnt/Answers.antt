@@ -2,7 +2,7 @@ use Rattle.std.proofs.Common.{◌∙◌, ap, Vec, Global, rules}
 use Rattle.std.specs.List.{count_by}
 use Rattle.journal_core.specs.Forgetting.{is_learnt}
 use Rattle.journal_core.specs.declared.entries.Entry.{Entry}
-use Rattle.journal_core.specs.declared.journals.JournalFault.TheVariants.{Memory}
+use Rattle.scim_key.specs.declared.stores.StoreFault.TheVariants.{Memory}
 use Rattle.journal_store.specs.Kept.{kept_entries}
 use Rattle.journal_store.proofs.Calls.{answered_so, fails_so, reads_on}
 use Rattle.journal_store.proofs.Changing.{loaded}

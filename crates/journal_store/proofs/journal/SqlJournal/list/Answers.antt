@@ -3,8 +3,8 @@ use Rattle.sqlite.specs.Effect.{Database}
 use Rattle.sqlite.specs.Held.{state}
 use Rattle.sqlite.specs.State.{HasCleanDisk}
 use Rattle.journal_store.specs.Connections.{ListsNone}
-use Rattle.sql_tables.specs.Faults.{HasFailed}
-use Rattle.journal_store.specs.Kept.{CallFailsFor, IsFaithful, Kept}
+use Rattle.sql_tables.specs.Faults.{FailsFor as CallFailsFor, HasFailed}
+use Rattle.journal_store.specs.Kept.{IsFaithful, Kept}
 use Rattle.sql_tables.proofs.Keeping.{kept_now}
 use Rattle.journal_store.proofs.Failing.{call_fails}
 use Rattle.journal_store.proofs.Reading.{sound_still}

@@ -1,6 +1,6 @@
 use Rattle.std.proofs.Common.{◌∙◌, Vec, Global, rules}
 use Rattle.journal_core.specs.declared.entries.Entry.{Entry}
-use Rattle.journal_core.specs.declared.journals.JournalFault.TheVariants.{Memory}
+use Rattle.scim_key.specs.declared.stores.StoreFault.TheVariants.{Memory}
 use Rattle.journal_store.proofs.Calls.{answered_so, fails_so, reads_on}
 use Rattle.sql_tables.specs.Faults.{HasFailed}
 use Rattle.sql_tables.proofs.Failing.{failed_since}

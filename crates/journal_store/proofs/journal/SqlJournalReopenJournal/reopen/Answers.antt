@@ -1,10 +1,10 @@
 use Rattle.std.proofs.Common.{◌⊎◌, true, refl, subst, sym, ◌∙◌}
 use Rattle.sqlite.specs.Held.{state}
 use Rattle.journal_store.specs.Calls.{OpensAgain}
-use Rattle.journal_store.specs.Kept.{CallFailsFor, Kept}
+use Rattle.journal_store.specs.Kept.{Kept}
 use Rattle.journal_store.specs.Opening.{IsNewer, IsNotLaid, IsSpoilt, IsUnfit}
 use Rattle.journal_store.proofs.Failing.{reopening_fails}
-use Rattle.sql_tables.specs.Faults.{HasFailed}
+use Rattle.sql_tables.specs.Faults.{FailsFor as CallFailsFor, HasFailed}
 use Rattle.journal_store.proofs.Reading.{answered}
 use Rattle.journal_store.proofs.Reopening.{reopened, store_on, whole_of}
 use Rattle.journal_store.proofs.journal.SqlJournalReopenJournal.reopen.Goals as goal

@@ -1,11 +1,10 @@
 use Rattle.std.proofs.Common.{◌⊎◌, IfErr, subst}
 use Rattle.sqlite.specs.Held.{state}
 use Rattle.provider_store.specs.Connections.{FindsNumber, resources}
-use Rattle.provider_store.specs.Faults.{FailsFor}
 use Rattle.provider_store.specs.Kept.{Kept}
 use Rattle.provider_store.specs.declared.tables.Found.TheVariants.{Damaged}
 use Rattle.provider_store.proofs.Failing.{look_up_failed}
-use Rattle.sql_tables.specs.Faults.{HasFailed}
+use Rattle.sql_tables.specs.Faults.{FailsFor, HasFailed}
 use Rattle.sql_tables.proofs.Results.{if_err}
 use Rattle.provider_store.proofs.registry.SqlRegistry.row_at.Goals as goal
 

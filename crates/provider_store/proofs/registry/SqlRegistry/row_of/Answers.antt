@@ -4,11 +4,10 @@ use Rattle.sqlite.specs.State.{HasCleanDisk}
 use Rattle.provider_core.specs.Rows.{row_named}
 use Rattle.provider_store.proofs.Reading.{named_answer}
 use Rattle.provider_store.specs.Connections.{FindsName, resources}
-use Rattle.provider_store.specs.Faults.{FailsFor}
 use Rattle.provider_store.specs.Kept.{Kept, kept_rows}
 use Rattle.provider_store.specs.declared.tables.Found.TheVariants.{Damaged}
 use Rattle.provider_store.proofs.Failing.{look_up_failed}
-use Rattle.sql_tables.specs.Faults.{HasFailed}
+use Rattle.sql_tables.specs.Faults.{FailsFor, HasFailed}
 use Rattle.sql_tables.proofs.Results.{if_err}
 use Rattle.provider_store.proofs.registry.SqlRegistry.row_of.Goals as goal
 

@@ -1,11 +1,10 @@
 use Rattle.std.proofs.Common.{◌≡◌, ◌⊎◌, true, refl, subst, sym, ◌∙◌}
 use Rattle.sqlite.specs.Held.{state}
 use Rattle.provider_store.specs.Calls.{OpensAgain}
-use Rattle.provider_store.specs.Faults.{FailsFor}
 use Rattle.provider_store.specs.Kept.{Kept}
 use Rattle.provider_store.specs.Opening.{IsNewer, IsNotLaid, IsSpoilt, IsUnfit}
 use Rattle.provider_store.proofs.Failing.{reopening_fails}
-use Rattle.sql_tables.specs.Faults.{HasFailed}
+use Rattle.sql_tables.specs.Faults.{FailsFor, HasFailed}
 use Rattle.provider_store.specs.Lookups.{answered}
 use Rattle.provider_store.proofs.Reopening.{reopened, store_on, whole_of}
 use Rattle.provider_store.proofs.registry.SqlRegistryReopen.reopen.Goals as goal

@@ -13,7 +13,7 @@ pub returns-in_err-request-clause-fails : goal.returns-in_err-request-clause-fai
 returns-in_err-request-clause-fails g c =
     let r = g.R.Registry in
     let before = c.args.self.now.provider in
-    let after = c.replace_with.new.dest in
+    let after = c.row_of.new.self in
     let honest : r.is_honest after → r.is_honest before = search rules in
     let was : r.is_faithful after → r.is_faithful before = search rules in
     let same : r.is_faithful after → r.rows after ≡ r.rows before = search rules in
@@ -26,7 +26,7 @@ pub returns-clause-fails : goal.returns-clause-fails
 returns-clause-fails g c =
     let r = g.R.Registry in
     let before = c.args.self.now.provider in
-    let after = c.replace_with.new.dest in
+    let after = c.row_of.new.self in
     let honest : r.is_honest after → r.is_honest before = search rules in
     let was : r.is_faithful after → r.is_faithful before = search rules in
     let same : r.is_faithful after → r.rows after ≡ r.rows before = search rules in
@@ -42,7 +42,7 @@ pub returns-in_err-request-clause-fails_on : goal.returns-in_err-request-clause-
 returns-in_err-request-clause-fails_on g c =
     let r = g.R.Registry in
     let before = c.args.self.now.provider in
-    let after = c.replace_with.new.dest in
+    let after = c.row_of.new.self in
     let honest : r.is_honest after → r.is_honest before = search rules in
     let was : r.is_faithful after → r.is_faithful before = search rules in
     let same : r.is_faithful after → r.rows after ≡ r.rows before = search rules in
@@ -55,7 +55,7 @@ pub returns-clause-fails_on : goal.returns-clause-fails_on
 returns-clause-fails_on g c =
     let r = g.R.Registry in
     let before = c.args.self.now.provider in
-    let after = c.replace_with.new.dest in
+    let after = c.row_of.new.self in
     let honest : r.is_honest after → r.is_honest before = search rules in
     let was : r.is_faithful after → r.is_faithful before = search rules in
     let same : r.is_faithful after → r.rows after ≡ r.rows before = search rules in

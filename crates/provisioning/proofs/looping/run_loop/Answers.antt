@@ -1,4 +1,0 @@
-use Rattle.provisioning.proofs.looping.run_loop.Goals as goal
-
-pub returns : goal.returns
-returns g c = (c.carry_here-carried.result, c.carry_here-carried.ensures, c.finish.ensures)

@@ -1,6 +1,0 @@
-use Rattle.storage.specs.Serving.{ServesFrom}
-use Rattle.storage.proofs.serving.serve_stored.Given as goal
-
--- the connections served so far
-abbrev pub invariant-loop-turn : goal.invariant-loop-turn
-invariant-loop-turn g l = ServesFrom g.L.Listen.waiting g.L.Reader.Read.remaining g.L.Writer.Write.contents g.K.Rows.Registry (g.K.RowStorage.finds l.storage) l.base l.initial.listener l.listener l.initial.provider l.provider l._turn l.outcome
