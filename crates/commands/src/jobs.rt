@@ -38,7 +38,7 @@ impl<'a> Job<'a> {
         Ok(read_sources(rt, self.users, self.groups)?)
     }
 
-    /// Reads the records of the system's files, of which no contract says what they have.
+    /// Reads the records of the system's files. No contract says what is in these.
     pub(crate) fn read_files<R: Runtime + AllocGlobal>(
         &self,
         rt: &R,

@@ -10,9 +10,11 @@ use Rattle.scim_key.specs.declared.records.Kind.{Kind}
 use Rattle.scim_key.specs.declared.records.Kind.TheVariants as kinds
 use Rattle.source_csv.specs.Fields.{Record}
 use Rattle.source_csv.specs.Files.{AreRecordsOf, rows_of}
+use Rattle.source_csv.specs.Lines.{multiline_of}
 use Rattle.source_csv.specs.declared.faults.RowFault.{RowFault}
 use Rattle.source_csv.specs.declared.faults.SourceFault.{SourceFault}
 use Rattle.source_csv.specs.declared.faults.SourceFault.TheVariants.{Header}
+use Rattle.source_csv.specs.declared.missing_quotes.Multiline.{Multiline}
 use Rattle.source_csv.specs.declared.rows.Row.{Row}
 use Rattle.provisioning.specs.declared.sources.Source.{Source}
 use Rattle.provisioning.specs.declared.sources.Sources.{Sources}
@@ -58,10 +60,17 @@ are_whole sources = is_whole sources.users && is_whole_if sources.groups
 abbrev pub path_in : Option (Bor (List ℕ)) → Option (List ℕ)
 path_in path = option_map (λ path. path.now) path
 
+-- those of a file's records that have a field over several lines; none if its header is wrong
+abbrev pub multiline_if : Option (List (Result Row RowFault)) → List Record → List Multiline
+multiline_if (Some rows) records = multiline_of records
+multiline_if None records = []
+
 -- these bytes say this of the records of a type
 pub record Says (of : Kind) (bytes : List ℕ) (source : Source) : Type 0 where
   pub kind_is : source.kind ≡ of
   pub rows : (records : List Record) → AreRecordsOf bytes records → read_as source ≡ rows_of of records
+  pub multiline : (records : List Record) → AreRecordsOf bytes records
+      → source.multiline.items ≡ multiline_if source.rows records
 
 module _ {R : Type 0} (gives : R → (path : List ℕ) → Result (List ℕ) Error → Type 0) (place : R) where
   -- the file at this path was read, and its bytes say this

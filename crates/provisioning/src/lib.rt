@@ -1,6 +1,6 @@
 //! A run of the connector over files. It offers the rows of the files to the connector, then carries
-//! each record to a provider, at an address or in the same program. Each exchange has its own stream;
-//! exchanges go on until the wanted revision is confirmed.
+//! each record to a provider, over any streams. Each exchange has its own stream; exchanges go on until
+//! the wanted revision is confirmed.
 #![tactic(auto)]
 
 mod abreast;

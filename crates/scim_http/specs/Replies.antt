@@ -9,10 +9,6 @@ use Rattle.http_text.specs.Response.{Line, written_lines, response_text}
 use Rattle.scim_message.specs.Bodies.{answer_location, body_text}
 use Rattle.scim_http.specs.Media.{media_type}
 
--- the URI of the resource that an answer shows or is about, if it is about one
-abbrev pub shown_location : List ℕ → Answer → Option (List ℕ)
-shown_location base answer = answer_location base answer
-
 -- the entity tag of the resource that an answer is about, if it is known
 abbrev pub shown_tag : Answer → Option (List ℕ)
 shown_tag (Created shown) = shown.version
@@ -67,7 +63,7 @@ lines_of length_ location tag created =
 
 abbrev pub answer_lines : List ℕ → Answer → List Line
 answer_lines base answer =
-    lines_of (stated_length base answer) (shown_location base answer) (shown_tag answer) (is_created answer)
+    lines_of (stated_length base answer) (answer_location base answer) (shown_tag answer) (is_created answer)
 
 abbrev pub unless_left_out : Bool → List ℕ → List ℕ
 unless_left_out true body = []

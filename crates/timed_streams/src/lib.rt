@@ -1,4 +1,4 @@
-//! Streams that fail from a deadline on, for both sides.
+//! Streams with a deadline, from which on each call fails. Connector and provider share them.
 #![tactic(auto)]
 
 mod deadline;

@@ -1,7 +1,8 @@
 //! A stream that nobody waits for.
-ghost use Rattle.std.specs.Prelude.{◌≡◌, OnOk};
+ghost use Rattle.std.specs.Prelude.{◌≡◌, OnOk, min};
 ghost use Rattle.std.specs.Io.{ReadsAtMost, WritesAtMost};
 ghost use Rattle.std.specs.Io.KnownBytes.{ReadConsumes, WriteAppends};
+ghost use Rattle.std.specs.Time.{instant_nanos};
 ghost use Rattle.timed_streams.specs.Deadlines.{HadTime};
 
 use crate::deadline::Deadline;
@@ -33,7 +34,9 @@ impl<'a, S: Drop, C> PromptStream<'a, S, C> {
 
     /// Moves the deadline to this moment, if that is earlier.
     pub fn end_by(&mut self, end: Instant)
-        ensures { self.new.stream ≡ self.old.stream }
+        ensures stream { self.new.stream ≡ self.old.stream }
+        ensures deadline { instant_nanos self.new.deadline.end
+            ≡ min (instant_nanos self.old.deadline.end) (instant_nanos end) }
     {
         self.deadline.end = self.deadline.end.min(end);
     }

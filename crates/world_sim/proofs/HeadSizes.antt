@@ -23,11 +23,11 @@ use Rattle.scim_filter.specs.Texts.{filter_text}
 use Rattle.scim_message.specs.declared.messages.Request.{Request}
 use Rattle.scim_message.specs.declared.messages.Request.TheVariants.{Create, Retrieve, Search, Replace}
 use Rattle.scim_message.specs.declared.messages.Answer.{Answer}
-use Rattle.scim_message.specs.Bodies.{body_text as answer_body}
+use Rattle.scim_message.specs.Bodies.{answer_location, body_text as answer_body}
 use Rattle.scim_message.specs.Messages.{answer_status}
 use Rattle.http_text.specs.Response.{Line, written_lines}
 use Rattle.scim_http.specs.Laws.{resource_path}
-use Rattle.scim_http.specs.Replies.{stated_type, lines_of as reply_lines_of, answer_lines, shown_location, shown_tag, is_created, stated_length as reply_length, value_if}
+use Rattle.scim_http.specs.Replies.{stated_type, lines_of as reply_lines_of, answer_lines, shown_tag, is_created, stated_length as reply_length, value_if}
 use Rattle.scim_http.specs.Routes.{collection_path}
 use Rattle.scim_client.specs.AnswerLaws.{KeepsAnswerLimits}
 use Rattle.scim_client.specs.Requests.{with_query, target_text, method_text, body_text, stated_length, condition_value, if_match_of, if_none_match_of, lines_of, request_lines}
@@ -190,11 +190,11 @@ reply_lines_most long location tag created size at version =
 pub record IsBriefAnswer (base : List ℕ) (answer : Answer) : Type 0 where
   pub body : length (answer_body base answer) ≤ 30000
   pub long : IsWithin 20 (reply_length base answer)
-  pub location : IsWithin 226 (shown_location base answer)
+  pub location : IsWithin 226 (answer_location base answer)
   pub tag : IsWithin 22 (shown_tag answer)
 
 pub keeps_answer_limits : (base : List ℕ) (answer : Answer) → IsBriefAnswer base answer → KeepsAnswerLimits base answer
 keeps_answer_limits base answer brief =
-    let lines = reply_lines_most (reply_length base answer) (shown_location base answer) (shown_tag answer) (is_created answer) brief.long brief.location brief.tag in
+    let lines = reply_lines_most (reply_length base answer) (answer_location base answer) (shown_tag answer) (is_created answer) brief.long brief.location brief.tag in
     let head = response_most (answer_status answer) (written_lines (answer_lines base answer)) (answer_body base answer) 700 lines in
     record { head = omega (arith, head); body = omega (arith, brief.body) }

@@ -56,14 +56,14 @@ impl From<ProviderFault> for LoopFault {
     }
 }
 
-/// The fault of a port that can't be listened on.
+/// The fault of a port that can't be listened on. The prover takes no function of another crate for `map_err`.
 pub(crate) fn unheard(error: io::Error) -> RunFault
     ensures { result ≡ open_fault error }
 {
     open_fault(error)
 }
 
-/// The fault of a run whose records can't be printed.
+/// The fault of a run whose records can't be printed; its own function, as for a port.
 pub(crate) fn unprinted(error: io::Error) -> RunFault
     ensures fault { result ≡ failed (error_kind error) Untold }
     ensures untold { IsUntold result }
