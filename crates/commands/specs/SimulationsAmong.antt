@@ -12,7 +12,7 @@ use Rattle.world_sim.specs.declared.acting.ActReport.{ActReport}
 use Rattle.world_sim.specs.declared.acting.ActReport.TheVariants as told
 use Rattle.world_sim.specs.declared.events.Event.{Event}
 use Rattle.world_sim.specs.declared.following.TellingFault.{TellingFault}
-use Rattle.world_sim.specs.declared.printing_among.ActLines.{ActLines}
+use Rattle.world_sim.specs.declared.printing.ReportLines.{ReportLines}
 use Rattle.world_sim.specs.declared.printing_among.PrintedAmong.{PrintedAmong}
 use Rattle.world_sim.specs.declared.schedules.ScheduleFault.{ScheduleFault}
 use Rattle.world_sim.specs.declared.views.View.{View}
@@ -64,7 +64,7 @@ acted_status reports views = if list_all is_taken_act reports && list_all is_con
 -- The lines of the reports, of the run to convergence, of our records and of those of others were printed, and the
 -- status is that of ours
 pub record SimulatesAmong {R J W : Type 0} (g : Registries R) (h : Journals J) (contents : W → Option (List ℕ))
-    (registry : R) (journal : J) (base : List ℕ) (all : List Act) (asked : Bool) (before after : ActLines W)
+    (registry : R) (journal : J) (base : List ℕ) (all : List Act) (asked : Bool) (before after : ReportLines ActReport W)
     (status : Status) : Type 0 where
   pub printed : PrintedAmong R J
   pub prints : PrintsAmong g h contents registry journal base all asked before after printed
@@ -72,7 +72,7 @@ pub record SimulatesAmong {R J W : Type 0} (g : Registries R) (h : Journals J) (
 
 -- Why it ended early, and what was printed before that
 pub record EndsAmongOthers {R J W : Type 0} (g : Registries R) (h : Journals J) (contents : W → Option (List ℕ))
-    (registry : R) (journal : J) (base : List ℕ) (all : List Act) (before after : ActLines W)
+    (registry : R) (journal : J) (base : List ℕ) (all : List Act) (before after : ReportLines ActReport W)
     (fault : CommandFault) : Type 0 where
   pub why : TellingFault Error
   pub ends : EndsPrintingAmong g h contents registry journal base all before after why

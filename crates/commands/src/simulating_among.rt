@@ -14,7 +14,7 @@ use scim_key::Base;
 use std::alloc::{AllocError, Global};
 use std::io::{Eprint, Write};
 use world_sim::{
-    Act, ActLines, ActReport, Event, ScheduleFault, View, contested, offered, print_run_among,
+    Act, ActReport, Event, ReportLines, ScheduleFault, View, contested, offered, print_run_among,
     read_acts, read_schedule, said_lines,
 };
 
@@ -60,7 +60,7 @@ pub fn tell_contested(
     let numbers = said_lines(alloc, text)?;
     let ours = offered(alloc, acts)?;
     for (number, act) in numbers.iter().zip(acts) {
-        if let Some(name) = contested(alloc, ours.as_slice(), act)? {
+        if let Some(name) = contested(alloc, &ours, act)? {
             let (kind, key) = (kind_word(name.kind), name.key.as_str());
             let _ = eprintln!(stderr;
                 "schedule line {number}: others write {kind} {key}, a record of the source"
@@ -108,7 +108,7 @@ pub fn simulate_among<R: Reopen + Drop, J: ReopenJournal + Drop, W: Write + Drop
     base: Base,
     acts: &[Act],
     settles: bool,
-    lines: &mut ActLines<W>,
+    lines: &mut ReportLines<ActReport, W>,
 ) -> Result<Status, CommandFault>
     ensures done { IfOk result (SimulatesAmong R.Registry J.Journal W.contents registry journal base
         acts.now settles lines.old lines.new) }

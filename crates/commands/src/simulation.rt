@@ -1,6 +1,6 @@
 //! Runs the events of `simulate`.
 ghost use Rattle.std.specs.Prelude.{◌∷◌, IfErr, IfOk};
-ghost use Rattle.commands.specs.Simulations.{EndsSimulation, Simulates, SimulatesSeveral};
+ghost use Rattle.commands.specs.Simulations.{EndsSimulation, EndsSimulationOfSeveral, Simulates, SimulatesSeveral};
 ghost use Rattle.world_sim.specs.Events.{events_of};
 
 use crate::endings::{several_status, simulated_status};
@@ -10,7 +10,7 @@ use provider_core::Reopen;
 use scim_key::Base;
 use std::alloc::{AllocError, Global};
 use std::io::Write;
-use world_sim::{Event, ReportLines, print_run, print_several, random_turns};
+use world_sim::{Event, Report, ReportLines, TurnReport, print_run, print_several, random_turns};
 
 /// Runs events over a registry without rows and a journal without entries, and prints a line for each report
 /// as it comes. Then it settles every record if that is asked for, and prints how many exchanges that took, and
@@ -22,7 +22,7 @@ pub fn simulate<R: Reopen + Drop, J: ReopenJournal + Drop, W: Write + Drop>(
     base: Base,
     events: &[Event],
     settles: bool,
-    lines: &mut ReportLines<W>,
+    lines: &mut ReportLines<Report, W>,
 ) -> Result<Status, CommandFault>
     ensures done { IfOk result (Simulates R.Registry J.Journal W.contents registry journal base
         (events_of events.now) settles lines.old lines.new) }
@@ -38,7 +38,7 @@ pub fn simulate<R: Reopen + Drop, J: ReopenJournal + Drop, W: Write + Drop>(
 /// Runs random turns of several connectors, one over each of these journals without entries, over a registry
 /// without rows, and prints a line for each as it comes. Then it settles every record of each if that is asked for,
 /// and prints how many exchanges that took, and a line for each record of each. It returns the exit status.
-pub fn simulate_several<R: Reopen + Drop, J: ReopenJournal + Drop, W: Write>(
+pub fn simulate_several<R: Reopen + Drop, J: ReopenJournal + Drop, W: Write + Drop>(
     alloc: Global,
     registry: R,
     first: J,
@@ -47,11 +47,12 @@ pub fn simulate_several<R: Reopen + Drop, J: ReopenJournal + Drop, W: Write>(
     seed: u64,
     count: u32,
     settles: bool,
-    out: &mut W,
+    lines: &mut ReportLines<TurnReport, W>,
 ) -> Result<Status, CommandFault>
-    ensures done { IfOk result
-        (SimulatesSeveral R.Registry J.Journal registry (first ∷ others.items) base seed count
-        settles (W.contents out.old) (W.contents out.new)) }
+    ensures done { IfOk result (SimulatesSeveral R.Registry J.Journal W.contents registry
+        (first ∷ others.items) base seed count settles lines.old lines.new) }
+    ensures fault { IfErr result (EndsSimulationOfSeveral R.Registry J.Journal W.contents registry
+        (first ∷ others.items) base seed count lines.old lines.new) }
 {
     let connectors = others.len().checked_add(1).ok_or(AllocError)?;
     let turns = random_turns(alloc, seed, count, connectors)?;
@@ -63,9 +64,9 @@ pub fn simulate_several<R: Reopen + Drop, J: ReopenJournal + Drop, W: Write>(
         base,
         turns.as_slice(),
         settles,
-        out,
+        lines,
     ) {
-        Ok(printed) => Ok(several_status(printed.reports.as_slice(), printed.views.as_slice())),
+        Ok(printed) => Ok(several_status(lines.reports.as_slice(), printed.views.as_slice())),
         Err(fault) => Err(CommandFault::from(fault)),
     }
 }

@@ -16,7 +16,7 @@ use std::alloc::Global;
 use std::io::BufWriter;
 use std::rt::Runtime;
 use std::{fs, io};
-use world_sim::{Act, ActLines, Event, ReportLines, random_schedule};
+use world_sim::{Act, Event, ReportLines, random_schedule};
 
 /// Runs the events of a file, or random ones, and prints a report for each, then settles every record if asked
 /// to, and prints, for each record, what is wanted, confirmed and held.
@@ -88,7 +88,7 @@ fn run_among<R: Runtime + AllocGlobal>(
     let out = BufWriter::new(rt.alloc(), io::writer(rt))?;
     let registry = MemoryRegistry::new(rt.alloc());
     let journal = MemoryJournal::new(rt.alloc());
-    let mut lines = ActLines::new(rt.alloc(), out);
+    let mut lines = ReportLines::new(rt.alloc(), out);
     simulate_among(
         rt.alloc(),
         registry,
@@ -118,12 +118,13 @@ fn run_several<R: Runtime + AllocGlobal>(
     connectors: u32,
     settles: bool,
 ) -> Result<Status, CommandFault> {
-    let mut out = BufWriter::new(rt.alloc(), io::writer(rt))?;
+    let out = BufWriter::new(rt.alloc(), io::writer(rt))?;
     let others = journals(rt.alloc(), connectors)?;
     let registry = MemoryRegistry::new(rt.alloc());
     let first = MemoryJournal::new(rt.alloc());
     let alloc = rt.alloc();
+    let mut lines = ReportLines::new(alloc, out);
     simulate_several(
-        alloc, registry, first, others, base, seed, count, settles, &mut out,
+        alloc, registry, first, others, base, seed, count, settles, &mut lines,
     )
 }

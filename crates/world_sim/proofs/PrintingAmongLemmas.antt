@@ -1,8 +1,6 @@
 -- Lines of acts that are printed one after the other, and the views of records that aren't ours.
-use Rattle.std.proofs.Common.{◌≡◌, ℕ, ◌+◌, Bool, true, false, List, [], ◌∷◌, ◌++◌, Option, Some, None, Result, Ok, Err, IfErr, inr, length, refl, ap, sym, subst, ◌∙◌, length-append}
-use Rattle.std.proofs.KnownBytes.{Appends-nil, Appends-trans}
-use Rattle.std.specs.Io.KnownBytes.{Appends}
-use Rattle.std.specs.List.{FoldsTo}
+use Rattle.std.proofs.Common.{◌≡◌, ℕ, ◌+◌, Bool, true, false, List, ◌++◌, Option, Some, None, Result, Ok, Err, IfErr, inr, length, refl, ap, sym, subst, ◌∙◌}
+use Rattle.std.proofs.KnownBytes.{Appends-trans}
 use Rattle.scim_key.specs.declared.records.RecordName.{RecordName}
 use Rattle.provider_core.specs.declared.registry.Registry.{Ghosts as Registries}
 use Rattle.journal_core.specs.declared.journals.Journal.{Ghosts as Journals}
@@ -10,31 +8,22 @@ use Rattle.mapping.specs.Settling.{IsSettleOrder}
 use Rattle.world_model.specs.Invariant.{Names}
 use Rattle.world_model.specs.Others.{run_among}
 use Rattle.world_model.specs.World.{World, empty, run}
-use Rattle.world_sim.specs.Amid.{acts_of}
+use Rattle.world_sim.specs.Amid.{act_text, acts_of}
 use Rattle.world_sim.specs.FollowingAmong.{RunsTellingAmong}
-use Rattle.world_sim.specs.Printing.{SettlesIf, ShowsEach, others_lines, settled_lines, view_lines}
-use Rattle.world_sim.specs.PrintingAmong.{EndsAmong, EndsPrintingAmong, PrintsAct, PrintsAmong, ReachesAmong, ShowsOthers, act_line, act_lines, printed_acts}
+use Rattle.world_sim.specs.Printing.{PrintsReport, SettlesIf, ShowsEach, others_lines, printed_reports, report_lines, settled_lines, view_lines}
+use Rattle.world_sim.specs.PrintingAmong.{EndsAmong, EndsPrintingAmong, PrintsAmong, ReachesAmong, ShowsOthers}
 use Rattle.world_sim.specs.Running.{IsAmong, IsSound, is_open, names_in}
 use Rattle.world_sim.specs.Strangers.{strangers}
 use Rattle.world_sim.specs.declared.acting.Act.{Act}
 use Rattle.world_sim.specs.declared.acting.ActReport.{ActReport}
 use Rattle.world_sim.specs.declared.following.TellingFault.{TellingFault}
-use Rattle.world_sim.specs.declared.printing_among.ActLines.{ActLines}
+use Rattle.world_sim.specs.declared.printing.ReportLines.{ReportLines}
 use Rattle.world_sim.specs.declared.printing_among.PrintedAmong.{PrintedAmong}
 use Rattle.world_sim.specs.declared.settling.Count.{Count}
 use Rattle.world_sim.specs.declared.views.View.{View}
 use Rattle.world_sim.specs.declared.worlds.World.{World as Running}
-use Rattle.world_sim.proofs.PrintingLemmas.{counted, names_are, settled_was}
+use Rattle.world_sim.proofs.PrintingLemmas.{counted, lines_printed, names_are, settled_was}
 use Rattle.world_sim.proofs.SettlingLemmas.{done_is}
-
--- reports that were printed one after the other are their lines
-acts_printed : {W : Type 0} (contents : W → Option (List ℕ)) (old : ActLines W) (reports : List ActReport) (new : ActLines W)
-    → FoldsTo (PrintsAct contents) old reports new → Appends (contents old.out) (contents new.out) (act_lines (length old.reports.items + 1) reports)
-acts_printed contents old [] new done = subst (λ l. Appends (contents old.out) (contents l.out) []) done (Appends-nil (contents old.out))
-acts_printed contents old (report ∷ reports) new (mid, one, rest) =
-    let next : length mid.reports.items ≡ length old.reports.items + 1 = ap length one.added ∙ length-append old.reports.items (report ∷ []) in
-    Appends-trans (contents old.out) (contents mid.out) (contents new.out) (act_line (length old.reports.items + 1) report) (act_lines (length old.reports.items + 1 + 1) reports)
-    one.line (subst (λ n. Appends (contents mid.out) (contents new.out) (act_lines (n + 1) reports)) next (acts_printed contents mid reports new rest))
 
 module _ {R J : Type 0} (g : Registries R) (h : Journals J) where
   pub others_shown : (old new : Running R J) (all : List Act) (names : List RecordName) (views : List View) → IsSettleOrder (strangers (names_in h old.connector) all) names → is_open old.connector ≡ true
@@ -59,8 +48,8 @@ module _ {R J : Type 0} (g : Registries R) (h : Journals J) where
   settled_reaches false old new (Some count) settles sound w is = absurd settles
   settled_reaches false old new None settles sound {ours} w is = (w, refl, subst (λ r. IsAmong g h ours r w) (sym settles) is)
 
-  pub all_printed : {W : Type 0} (contents : W → Option (List ℕ)) (registry : R) (journal : J) (base : List ℕ) (all : List Act) (asked : Bool) (before between after : ActLines W) (ran : Running R J) (printed : PrintedAmong R J)
-      → RunsTellingAmong g h printed_acts (PrintsAct contents) registry journal base all before between ran
+  pub all_printed : {W : Type 0} (contents : W → Option (List ℕ)) (registry : R) (journal : J) (base : List ℕ) (all : List Act) (asked : Bool) (before between after : ReportLines ActReport W) (ran : Running R J) (printed : PrintedAmong R J)
+      → RunsTellingAmong g h printed_reports (PrintsReport act_text contents) registry journal base all before between ran
       → EndsAmong g h all asked ran (contents between.out) (contents after.out) printed → after.reports ≡ between.reports
       → PrintsAmong g h contents registry journal base all asked before after printed
   all_printed contents registry journal base all asked before between after ran printed runs ends same = record {
@@ -69,9 +58,9 @@ module _ {R J : Type 0} (g : Registries R) (h : Journals J) where
     added = ap (λ v. v.items) same ∙ runs.tells.added;
     one_each = runs.one_each;
     counted = counted g h asked ran ends.settled ends.count ends.settles;
-    lines = Appends-trans (contents before.out) (contents between.out) (contents after.out) (act_lines (length before.reports.items + 1) runs.reports)
+    lines = Appends-trans (contents before.out) (contents between.out) (contents after.out) (report_lines act_text (length before.reports.items + 1) runs.reports)
         (settled_lines ends.count ++ (view_lines printed.views.items ++ others_lines printed.others.items))
-        (acts_printed contents before runs.reports between runs.tells.done) ends.lines;
+        (lines_printed act_text contents before runs.reports between runs.tells.done) ends.lines;
     ran = ran;
     was = λ sound. sound_ran sound;
     promise = runs.from_empty;
@@ -93,8 +82,8 @@ module _ {R J : Type 0} (g : Registries R) (h : Journals J) where
       sound_ran sound = settled_was g h asked ran ends.settled ends.count ends.settles (sound_settled sound)
 
   -- whatever fails after the reports
-  pub stops_after : {W T E : Type 0} (contents : W → Option (List ℕ)) (registry : R) (journal : J) (base : List ℕ) (all : List Act) (before between after : ActLines W) (ran : Running R J) (result : Result T (TellingFault E))
-      → RunsTellingAmong g h printed_acts (PrintsAct contents) registry journal base all before between ran → after.reports ≡ between.reports
+  pub stops_after : {W T E : Type 0} (contents : W → Option (List ℕ)) (registry : R) (journal : J) (base : List ℕ) (all : List Act) (before between after : ReportLines ActReport W) (ran : Running R J) (result : Result T (TellingFault E))
+      → RunsTellingAmong g h printed_reports (PrintsReport act_text contents) registry journal base all before between ran → after.reports ≡ between.reports
       → IfErr result (EndsPrintingAmong g h contents registry journal base all before after)
   stops_after contents registry journal base all before between after ran (Ok printed) runs same = tt
   stops_after contents registry journal base all before between after ran (Err fault) runs same = inr (record { between = between; ran = ran; runs = runs; kept = same })

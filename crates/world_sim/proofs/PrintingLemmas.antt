@@ -12,6 +12,7 @@ use Rattle.journal_core.specs.declared.journals.Journal.{Ghosts as Journals}
 use Rattle.world_model.specs.Invariant.{Names, all_names}
 use Rattle.world_model.specs.World.{World, Event, empty, names as world_names, run}
 use Rattle.world_sim.specs.Following.{RunsTelling}
+use Rattle.world_sim.specs.Lines.{report_text}
 use Rattle.world_sim.specs.Printing.{Ends, EndsPrinting, Prints, PrintsReport, Reaches, SettlesIf, ShowsAll, ShowsEach, line_of, lines_of, printed_reports, report_line, report_lines, settled_lines, view_lines}
 use Rattle.world_sim.specs.Running.{HasBook, Is, IsAmong, IsSound, is_open, names_in}
 use Rattle.world_sim.specs.Views.{Looks, Shows, view}
@@ -31,13 +32,21 @@ use Rattle.world_sim.proofs.SettlingLemmas.{done_is}
 -- ---- the lines of reports
 
 -- reports that were printed one after the other are their lines
-pub lines_printed : {W : Type 0} (contents : W → Option (List ℕ)) (old : ReportLines W) (reports : List Report) (new : ReportLines W)
-    → FoldsTo (PrintsReport contents) old reports new → Appends (contents old.out) (contents new.out) (report_lines (length old.reports.items + 1) reports)
-lines_printed contents old [] new done = subst (λ l. Appends (contents old.out) (contents l.out) []) done (Appends-nil (contents old.out))
-lines_printed contents old (report ∷ reports) new (mid, one, rest) =
+pub lines_printed : {T W : Type 0} (text : T → List ℕ) (contents : W → Option (List ℕ)) (old : ReportLines T W) (reports : List T) (new : ReportLines T W)
+    → FoldsTo (PrintsReport text contents) old reports new → Appends (contents old.out) (contents new.out) (report_lines text (length old.reports.items + 1) reports)
+lines_printed text contents old [] new done = subst (λ l. Appends (contents old.out) (contents l.out) []) done (Appends-nil (contents old.out))
+lines_printed text contents old (report ∷ reports) new (mid, one, rest) =
     let next : length mid.reports.items ≡ length old.reports.items + 1 = ap length one.added ∙ length-append old.reports.items (report ∷ []) in
-    Appends-trans (contents old.out) (contents mid.out) (contents new.out) (report_line (length old.reports.items + 1) report) (report_lines (length old.reports.items + 1 + 1) reports)
-    one.line (subst (λ n. Appends (contents mid.out) (contents new.out) (report_lines (n + 1) reports)) next (lines_printed contents mid reports new rest))
+    Appends-trans (contents old.out) (contents mid.out) (contents new.out) (report_line (length old.reports.items + 1) (text report)) (report_lines text (length old.reports.items + 1 + 1) reports)
+    one.line (subst (λ n. Appends (contents mid.out) (contents new.out) (report_lines text (n + 1) reports)) next (lines_printed text contents mid reports new rest))
+
+-- one report more is one line more
+pub report_lines-push : {T : Type 0} (text : T → List ℕ) (number : ℕ) (reports : List T) (last : T) → report_lines text number (reports ++ last ∷ []) ≡ report_lines text number reports ++ report_line (number + length reports) (text last)
+report_lines-push text number [] last = let same : number + 0 ≡ number = omega arith in append-nil (report_line number (text last)) ∙ ap (λ n. report_line n (text last)) (sym same)
+report_lines-push text number (first ∷ reports) last =
+    let same : number + 1 + length reports ≡ number + suc (length reports) = omega arith in
+    ap (λ l. report_line number (text first) ++ l) (report_lines-push text (number + 1) reports last ∙ ap (λ n. report_lines text (number + 1) reports ++ report_line n (text last)) same)
+    ∙ sym (append_assoc (report_line number (text first)) (report_lines text (number + 1) reports) (report_line (number + suc (length reports)) (text last)))
 
 -- ---- the views of records
 
@@ -104,8 +113,8 @@ module _ {R J : Type 0} (g : Registries R) (h : Journals J) where
   counted false old new (Some count) settles = absurd settles
   counted false old new None settles = refl
 
-  pub all_printed : {W : Type 0} (contents : W → Option (List ℕ)) (registry : R) (journal : J) (base : List ℕ) (events : List Event) (asked : Bool) (before between after : ReportLines W) (ran : Running R J) (printed : Printed R J)
-      → RunsTelling g h printed_reports (PrintsReport contents) registry journal base events before between ran
+  pub all_printed : {W : Type 0} (contents : W → Option (List ℕ)) (registry : R) (journal : J) (base : List ℕ) (events : List Event) (asked : Bool) (before between after : ReportLines Report W) (ran : Running R J) (printed : Printed R J)
+      → RunsTelling g h printed_reports (PrintsReport report_text contents) registry journal base events before between ran
       → Ends g h asked ran (contents between.out) (contents after.out) printed → after.reports ≡ between.reports
       → Prints g h contents registry journal base events asked before after printed
   all_printed contents registry journal base events asked before between after ran printed runs ends same = record {
@@ -114,8 +123,8 @@ module _ {R J : Type 0} (g : Registries R) (h : Journals J) where
     added = ap (λ v. v.items) same ∙ runs.tells.added;
     one_each = runs.one_each;
     counted = counted asked ran ends.between ends.count ends.settles;
-    lines = Appends-trans (contents before.out) (contents between.out) (contents after.out) (report_lines (length before.reports.items + 1) runs.reports) (settled_lines ends.count ++ view_lines printed.views.items)
-        (lines_printed contents before runs.reports between runs.tells.done) ends.lines;
+    lines = Appends-trans (contents before.out) (contents between.out) (contents after.out) (report_lines report_text (length before.reports.items + 1) runs.reports) (settled_lines ends.count ++ view_lines printed.views.items)
+        (lines_printed report_text contents before runs.reports between runs.tells.done) ends.lines;
     so = λ faithful rows kept sound.
         let at_end = ends.shows.was sound in
         let at_start = settled_was asked ran ends.between ends.count ends.settles at_end in
@@ -130,8 +139,8 @@ module _ {R J : Type 0} (g : Registries R) (h : Journals J) where
   }
 
   -- whatever fails after the reports
-  pub stops_after : {W T E : Type 0} (contents : W → Option (List ℕ)) (registry : R) (journal : J) (base : List ℕ) (events : List Event) (before between after : ReportLines W) (ran : Running R J) (result : Result T (TellingFault E))
-      → RunsTelling g h printed_reports (PrintsReport contents) registry journal base events before between ran → after.reports ≡ between.reports
+  pub stops_after : {W T E : Type 0} (contents : W → Option (List ℕ)) (registry : R) (journal : J) (base : List ℕ) (events : List Event) (before between after : ReportLines Report W) (ran : Running R J) (result : Result T (TellingFault E))
+      → RunsTelling g h printed_reports (PrintsReport report_text contents) registry journal base events before between ran → after.reports ≡ between.reports
       → IfErr result (EndsPrinting g h contents registry journal base events before after)
   stops_after contents registry journal base events before between after ran (Ok printed) runs same = tt
   stops_after contents registry journal base events before between after ran (Err fault) runs same = inr (record { between = between; ran = ran; runs = runs; kept = same })

@@ -1,10 +1,11 @@
 -- Turns one after the other, from connectors that start, to records that are settled and shown.
-use Rattle.std.proofs.Common.{arith, ◌≡◌, ◌<◌, ◌+◌, ◌-◌, ◌^◌, ◌⊎◌, ℕ, zero, suc, Bool, true, false, is_some, List, [], ◌∷◌, ◌++◌, Option, Some, None, map, min, length, take, drop, refl, ap, sym, subst, inl, inr, ◌∙◌, append-nil, append_assoc, length-append}
+use Rattle.std.proofs.Common.{arith, ◌≡◌, ◌<◌, ◌+◌, ◌-◌, ◌^◌, ◌⊎◌, ℕ, zero, suc, Bool, true, false, is_some, List, [], ◌∷◌, ◌++◌, Option, Some, None, Result, Ok, Err, IfErr, map, min, length, take, drop, refl, ap, sym, subst, inl, inr, ◌∙◌, append-nil, append_assoc, length-append}
 use Rattle.std.proofs.Math.ListN.{get_or}
 use Rattle.std.proofs.Math.Seq.{take-suc}
+use Rattle.std.proofs.KnownBytes.{Appends-trans}
+use Rattle.std.proofs.lemmas.Fn.{FoldsTo-push}
 use Rattle.std.proofs.lemmas.List.{map_push, map-append, take-append-drop}
 use Rattle.std.proofs.lemmas.Option.{slice_get-get_or}
-use Rattle.std.specs.Io.KnownBytes.{Appends}
 use Rattle.std.specs.List.{AllByRecursion, slice_get}
 use Rattle.provider_core.specs.declared.registry.Registry.{Ghosts as Registries}
 use Rattle.journal_core.specs.declared.journals.Journal.{Ghosts as Journals}
@@ -16,11 +17,12 @@ use Rattle.world_model.specs.Several.{Shared, nobody, world_at, with_world, happ
 use Rattle.world_model.specs.World.{Message}
 use Rattle.world_model.proofs.Several.{always_safe_for_each, always_onward_for_each, headline_holds_for_each}
 use Rattle.world_sim.specs.Events.{event_of, report_of}
+use Rattle.world_sim.specs.Following.{Tells}
 use Rattle.world_sim.specs.Messages.{message_size}
-use Rattle.world_sim.specs.Printing.{settled_lines, view_lines}
+use Rattle.world_sim.specs.Printing.{PrintsReport, printed_reports, report_lines, settled_lines, view_lines}
 use Rattle.world_sim.specs.Running.{IsAmong, IsSound, Starts, journal_in}
-use Rattle.world_sim.specs.Several.{Adds, FailsToStart, StopsAfterTurns, StopsAt, StopsEach, AreAmong, AreSound, GoesOnSharing, HappensAt, IsNew, IsSeatAt, RunsSeveral, RunsSeveralFromEmpty, SettlesAt, SettlesEach, StartsSeveral, seat_of, seated, seats_of, turn_of, turn_report_of, turn_reports, turns_of}
-use Rattle.world_sim.specs.SeveralPrinting.{EndsPrintingSeveral, EndsTurn, EndsTurns, PrintsSeveral, ReachesEach, SettlesEachIf, ShowsAt, ShowsEachSide, turn_line, turn_lines, views_lines, views_of}
+use Rattle.world_sim.specs.Several.{Adds, FailsToStart, StopsAt, StopsEach, AreAmong, AreSound, GoesOnSharing, HappensAt, IsNew, IsSeatAt, RunsSeveral, RunsSeveralFromEmpty, SettlesAt, SettlesEach, StartsSeveral, seat_of, seated, seats_of, turn_of, turn_report_of, turn_reports, turns_of}
+use Rattle.world_sim.specs.SeveralPrinting.{EndsPrintingSeveral, EndsSeveral, EndsTurn, EndsTurns, FollowsTurn, PrintsSeveral, ReachesEach, RunsTurns, SettlesEachIf, ShowsAt, ShowsEachSide, turn_text, views_lines, views_of}
 use Rattle.connector_core.specs.State.{CountsOpen}
 use Rattle.connector_core.specs.declared.opening.ConnectorOpenFault.{ConnectorOpenFault}
 use Rattle.connector_core.specs.declared.opening.ConnectorOpenFault.TheVariants as opening
@@ -28,6 +30,7 @@ use Rattle.world_sim.specs.Events.{opening_fault}
 use Rattle.world_sim.specs.Sides.{CountsWorldFault}
 use Rattle.world_sim.specs.declared.following.TellingFault.{TellingFault}
 use Rattle.world_sim.specs.declared.following.TellingFault.TheVariants.{World, Untold}
+use Rattle.world_sim.specs.declared.printing.ReportLines.{ReportLines}
 use Rattle.world_sim.specs.declared.reports.WorldFault.{WorldFault}
 use Rattle.world_sim.specs.declared.reports.WorldFault.TheVariants.{Memory}
 use Rattle.world_sim.specs.declared.several.Seat.{Seat}
@@ -38,6 +41,7 @@ use Rattle.world_sim.specs.declared.several_printing.PrintedSeveral.{PrintedSeve
 use Rattle.world_sim.specs.declared.settling.Count.{Count}
 use Rattle.world_sim.specs.declared.views.View.{View}
 use Rattle.world_sim.specs.declared.worlds.World.{World as Running}
+use Rattle.world_sim.proofs.PrintingLemmas.{lines_printed}
 use Rattle.world_sim.proofs.SharingLemmas.{at_first, now_sound, sound_before, stayed}
 use Rattle.world_sim.proofs.WholeRuns.{all_back, all_front}
 
@@ -86,13 +90,6 @@ own_last : (ours : ℕ → Names) (early : List TurnOf) (turn : TurnOf) → Each
 own_last ours early turn own = (all_back (IsItsOwn ours) (turns_of early) (turn_of turn ∷ []) (subst (EachItsOwn ours) (map_push turn_of early turn) own)).0
 
 -- ---- lines
-
-pub turn_lines-push : (number : ℕ) (said : List TurnReport) (last : TurnReport) → turn_lines number (said ++ last ∷ []) ≡ turn_lines number said ++ turn_line (number + length said) last
-turn_lines-push number [] last = let same : number + 0 ≡ number = omega arith in append-nil (turn_line number last) ∙ ap (λ n. turn_line n last) (sym same)
-turn_lines-push number (first ∷ said) last =
-    let same : number + 1 + length said ≡ number + suc (length said) = omega arith in
-    ap (λ l. turn_line number first ++ l) (turn_lines-push (number + 1) said last ∙ ap (λ n. turn_lines (number + 1) said ++ turn_line n last) same)
-    ∙ sym (append_assoc (turn_line number first) (turn_lines (number + 1) said) (turn_line (number + suc (length said)) last))
 
 pub views_lines-push : (all : List (List View)) (views : List View) → views_lines (all ++ views ∷ []) ≡ views_lines all ++ view_lines views
 views_lines-push [] views = append-nil (view_lines views)
@@ -207,12 +204,11 @@ module _ {R J : Type 0} (g : Registries R) (h : Journals J) where
         ∙ sym (reports-more (message_size old.first.service) s early turn);
   }
 
-  -- one turn more, whose report is kept
-  pub several_more : (old mid new : SharedWorld R J) (turns : List TurnOf) (i : ℕ) (turn : TurnOf) (said after : List TurnReport) (last : TurnReport) → i < length turns → turn ≡ get_or turns i turn
-      → RunsSeveral g h old mid (take i turns) said → HappensAt g h mid new turn.place (event_of turn.event) last → after ≡ said ++ last ∷ [] → RunsSeveral g h old new (take (i + 1) turns) after
-  several_more old mid new turns i turn said after last less at ran one added =
-      subst (λ l. RunsSeveral g h old new l after) (sym (take_next turns i turn less at))
-      (subst (RunsSeveral g h old new (take i turns ++ turn ∷ [])) (sym added) (several_on old mid new (take i turns) turn said last ran one))
+  -- one turn more
+  pub several_more : (old mid new : SharedWorld R J) (turns : List TurnOf) (i : ℕ) (turn : TurnOf) (said : List TurnReport) (last : TurnReport) → i < length turns → turn ≡ get_or turns i turn
+      → RunsSeveral g h old mid (take i turns) said → HappensAt g h mid new turn.place (event_of turn.event) last → RunsSeveral g h old new (take (i + 1) turns) (said ++ last ∷ [])
+  several_more old mid new turns i turn said last less at ran one =
+      subst (λ l. RunsSeveral g h old new l (said ++ last ∷ [])) (sym (take_next turns i turn less at)) (several_on old mid new (take i turns) turn said last ran one)
 
   -- ---- whole runs
 
@@ -306,32 +302,35 @@ module _ {R J : Type 0} (g : Registries R) (h : Journals J) where
   each_reaches false old new (Some count) settles sound s among = absurd settles
   each_reaches false old new None settles sound {ours} s among = (s, refl, subst (λ r. AreAmong g h ours r s) (sym settles) among)
 
-  pub all_printed_several : (first ran settled : SharedWorld R J) (registry : R) (journals : List J) (base : List ℕ) (turns : List TurnOf) (asked : Bool) (count : Option Count)
-      (before : Option (List ℕ)) (after : Option (List ℕ)) (printed : PrintedSeveral R J)
-      → StartsSeveral g h registry journals base first → RunsSeveral g h first ran turns printed.reports.items → SettlesEachIf g h asked ran settled count
-      → ShowsEachSide g h settled printed.world (length (seats_of settled)) (map (λ views. views.items) printed.views.items)
-      → Appends before after (turn_lines 1 printed.reports.items ++ (settled_lines count ++ views_lines (map (λ views. views.items) printed.views.items)))
-      → PrintsSeveral g h registry journals base turns asked before after printed
-  all_printed_several first ran settled registry journals base turns asked count before after printed starts runs settles shows lines = record {
-    numbers = runs.numbers;
-    count = count;
-    counted = each_counted asked ran settled count settles;
-    lines = lines;
+  pub all_printed_several : {W : Type 0} (contents : W → Option (List ℕ)) (first ran : SharedWorld R J) (registry : R) (journals : List J) (base : List ℕ) (turns : List TurnOf) (asked : Bool)
+      (before between after : ReportLines TurnReport W) (printed : PrintedSeveral R J)
+      → StartsSeveral g h registry journals base first → RunsTurns g h printed_reports (PrintsReport turn_text contents) first ran turns before between
+      → EndsSeveral g h asked ran (contents between.out) (contents after.out) printed → after.reports ≡ between.reports
+      → PrintsSeveral g h contents registry journals base turns asked before after printed
+  all_printed_several contents first ran registry journals base turns asked before between after printed starts runs ends same = record {
+    reports = runs.reports;
+    count = ends.count;
+    added = ap (λ v. v.items) same ∙ runs.tells.added;
+    numbers = runs.runs.numbers;
+    counted = each_counted asked ran ends.settled ends.count ends.settles;
+    lines = Appends-trans (contents before.out) (contents between.out) (contents after.out) (report_lines turn_text (length before.reports.items + 1) runs.reports)
+        (settled_lines ends.count ++ views_lines (map (λ views. views.items) printed.views.items))
+        (lines_printed turn_text contents before runs.reports between runs.tells.done) ends.lines;
     so = λ faithful rows empty sound ours none_shared own.
-        let at_end = shows.was sound in
-        let is_run = ran_several first ran registry journals base turns printed.reports.items starts runs faithful rows empty (each_was asked ran settled count settles at_end) ours none_shared own in
-        let (t, reached, there) = each_reaches asked ran settled count settles at_end (run_several nobody (turns_of turns)) is_run.is in
+        let at_end = ends.shows.was sound in
+        let is_run = ran_several first ran registry journals base turns runs.reports starts runs.runs faithful rows empty (each_was asked ran ends.settled ends.count ends.settles at_end) ours none_shared own in
+        let (t, reached, there) = each_reaches asked ran ends.settled ends.count ends.settles at_end (run_several nobody (turns_of turns)) is_run.is in
         record {
           ran = ran;
           run = is_run;
           last = t;
-          reaches = subst (λ n. ReachesEach (run_several nobody (turns_of turns)) n count t) many reached;
-          shown = shows.shown sound t there ∙ ap (views_of t) (each_many asked ran settled count settles ∙ many);
+          reaches = subst (λ n. ReachesEach (run_several nobody (turns_of turns)) n ends.count t) many reached;
+          shown = ends.shows.shown sound t there ∙ ap (views_of t) (each_many asked ran ends.settled ends.count ends.settles ∙ many);
         };
   }
     where
       many : length (seats_of ran) ≡ length journals
-      many = runs.count ∙ starts.count
+      many = runs.runs.count ∙ starts.count
 
 -- ---- runs that ended early
 
@@ -373,48 +372,55 @@ module _ {R J : Type 0} (g : Registries R) (h : Journals J) where
   turns_split turns i turn less at =
       sym (take-append-drop (i + 1) turns) ∙ ap (λ early. early ++ drop (i + 1) turns) (take_next turns i turn less at) ∙ append_assoc (take i turns) (turn ∷ []) (drop (i + 1) turns)
 
-  -- no turn failed
-  ends_after : {E : Type 0} (first : SharedWorld R J) (turns : List TurnOf) (fault : TellingFault E) → StopsAfterTurns g h first turns → EndsTurns g h first turns fault
-  ends_after first turns (World fault) stops = inr stops
-  ends_after first turns (Untold why) stops = stops
+  -- whatever fails after the turns
+  pub stops_after_turns : {W T E : Type 0} (contents : W → Option (List ℕ)) (first ran : SharedWorld R J) (registry : R) (journals : List J) (base : List ℕ) (turns : List TurnOf) (before between after : ReportLines TurnReport W)
+      (result : Result T (TellingFault E)) → StartsSeveral g h registry journals base first → RunsTurns g h printed_reports (PrintsReport turn_text contents) first ran turns before between → after.reports ≡ between.reports
+      → IfErr result (EndsPrintingSeveral g h contents registry journals base turns before after)
+  stops_after_turns contents first ran registry journals base turns before between after (Ok printed) starts runs same = tt
+  stops_after_turns contents first ran registry journals base turns before between after (Err fault) starts runs same =
+      inr (record { first = first; starts = starts; ends = inr (record { between = between; ran = ran; runs = runs; kept = same }) })
 
-  -- a turn was made whose report couldn't be kept
-  pub turn_unkept : {E : Type 0} (first last left : SharedWorld R J) (turns : List TurnOf) (i : ℕ) (turn : TurnOf) (said : List TurnReport) (report : TurnReport) (fault : TellingFault E) → i < length turns → turn ≡ get_or turns i turn
-      → RunsSeveral g h first last (take i turns) said → HappensAt g h last left turn.place (event_of turn.event) report → EndsTurns g h first turns fault
-  turn_unkept first last left turns i turn said report fault less at runs one = ends_after first turns fault (record {
-    ran = left;
-    early = take i turns ++ turn ∷ [];
-    late = drop (i + 1) turns;
-    said = said ++ report ∷ [];
-    split = turns_split turns i turn less at ∙ sym (append_assoc (take i turns) (turn ∷ []) (drop (i + 1) turns));
-    runs = several_on g h first last left (take i turns) turn said report runs one;
-  })
+module _ {R J F : Type 0} (g : Registries R) (h : Journals J) (told : F → List TurnReport) (does : F → TurnReport → F → Type 0) where
+  pub no_turns : (r : SharedWorld R J) (f : F) → RunsTurns g h told does r r [] f f
+  no_turns r f = record { reports = []; runs = several_none g h r; tells = record { added = sym (append-nil (told f)); done = refl } }
 
-  -- a turn failed, or its line couldn't be printed
-  pub turn_ends : {E : Type 0} (first last left : SharedWorld R J) (turns : List TurnOf) (i : ℕ) (turn : TurnOf) (said : List TurnReport) (fault : TellingFault E) → i < length turns → turn ≡ get_or turns i turn
-      → RunsSeveral g h first last (take i turns) said → EndsTurn g h last left turn fault → EndsTurns g h first turns fault
-  turn_ends first last left turns i turn said (World fault) less at runs fails = inl (record {
-    last = last;
-    left = left;
+  -- one turn more, whose report was told
+  pub one_turn : (old mid new : SharedWorld R J) (turns : List TurnOf) (i : ℕ) (turn : TurnOf) (before between after : F) → i < length turns → turn ≡ get_or turns i turn
+      → RunsTurns g h told does old mid (take i turns) before between → FollowsTurn g h told does mid new turn between after → RunsTurns g h told does old new (take (i + 1) turns) before after
+  one_turn old mid new turns i turn before between after less at far one = record {
+    reports = far.reports ++ one.report ∷ [];
+    runs = several_more g h old mid new turns i turn far.reports one.report less at far.runs one.happens;
+    tells = record {
+      added = one.added ∙ ap (λ l. l ++ one.report ∷ []) far.tells.added ∙ append_assoc (told before) far.reports (one.report ∷ []);
+      done = FoldsTo-push does before far.reports between one.report after far.tells.done one.done;
+    };
+  }
+
+  -- the turns ended at this one
+  pub turn_ends : {E : Type 0} (first last left : SharedWorld R J) (turns : List TurnOf) (i : ℕ) (turn : TurnOf) (before between after : F) (fault : TellingFault E) → i < length turns → turn ≡ get_or turns i turn
+      → RunsTurns g h told does first last (take i turns) before between → EndsTurn g h told last left turn between after fault → EndsTurns g h told does first turns before after fault
+  turn_ends first last left turns i turn before between after (World fault) less at far ends = record {
+    fails = record {
+      last = last;
+      left = left;
+      early = take i turns;
+      turn = turn;
+      late = drop (i + 1) turns;
+      said = far.reports;
+      split = turns_split g h turns i turn less at;
+      runs = far.runs;
+      fails = ends.fails;
+    };
+    tells = subst (λ f. Tells told does before f far.reports) (sym ends.same) far.tells;
+  }
+  turn_ends first last left turns i turn before between after (Untold why) less at far ends = record {
+    last = left;
     early = take i turns;
     turn = turn;
     late = drop (i + 1) turns;
-    said = said;
-    split = turns_split turns i turn less at;
-    runs = runs;
-    fails = fails;
-  })
-  turn_ends first last left turns i turn said (Untold why) less at runs (last_said, one) = turn_unkept first last left turns i turn said last_said (Untold why) less at runs one
-
-  -- all turns were made
-  pub ends_started : {E : Type 0} (first ran : SharedWorld R J) (registry : R) (journals : List J) (base : List ℕ) (turns : List TurnOf) (said : List TurnReport) (fault : TellingFault E)
-      → StartsSeveral g h registry journals base first → RunsSeveral g h first ran turns said → EndsPrintingSeveral g h registry journals base turns fault
-  ends_started first ran registry journals base turns said fault starts runs = inr (record {
-    first = first;
-    starts = starts;
-    ends = ends_after first turns fault (record { ran = ran; early = turns; late = []; said = said; split = sym (append-nil turns); runs = runs });
-  })
-
-  pub ends_in_turns : {E : Type 0} (first : SharedWorld R J) (registry : R) (journals : List J) (base : List ℕ) (turns : List TurnOf) (fault : TellingFault E)
-      → StartsSeveral g h registry journals base first → EndsTurns g h first turns fault → EndsPrintingSeveral g h registry journals base turns fault
-  ends_in_turns first registry journals base turns fault starts ends = inr (record { first = first; starts = starts; ends = ends })
+    reports = far.reports;
+    report = ends.report;
+    split = turns_split g h turns i turn less at;
+    runs = several_on g h first last left (take i turns) turn far.reports ends.report far.runs ends.happens;
+    misses = record { between = between; tells = far.tells; same = ends.same };
+  }

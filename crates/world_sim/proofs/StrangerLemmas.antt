@@ -1,10 +1,45 @@
 -- Records that others write by rows, met one after the other.
-use Rattle.std.proofs.Common.{◌≡◌, ◌<◌, ◌+◌, ℕ, List, [], ◌∷◌, ◌++◌, Option, Some, None, length, drop, ap, sym, ◌∙◌, append-nil, append_assoc, option_to_list}
+use Rattle.std.proofs.Common.{◌≡◌, ◌<◌, ◌+◌, ◌||◌, ℕ, suc, Bool, true, false, cond, List, [], ◌∷◌, ◌++◌, Option, Some, None, length, take, drop, refl, ap, sym, subst, ◌∙◌, append-nil, append_assoc, option_to_list, arith}
 use Rattle.std.proofs.Math.ListN.{get_or}
+use Rattle.std.proofs.Math.Seq.{take-suc}
 use Rattle.std.proofs.lemmas.List.{at_drop_more}
+use Rattle.std.proofs.lemmas.List.Folds.{list_any-append}
+use Rattle.std.specs.BTreeSet.{BTreeSet, IsEmpty, Updates, contains}
+use Rattle.scim_key.specs.RecordOrder.{tied}
+use Rattle.scim_key.specs.Records.{name_cmp, same_name}
 use Rattle.scim_key.specs.declared.records.RecordName.{RecordName}
-use Rattle.world_sim.specs.Strangers.{met, offer, offered, strangers}
+use Rattle.world_sim.specs.Strangers.{HasNames, is_one_of, met, offer, offered, strangers}
 use Rattle.world_sim.specs.declared.acting.Act.{Act}
+
+-- ---- names in a set
+
+pub no_names : (set : BTreeSet RecordName) → IsEmpty set → HasNames set []
+no_names set empty name = rw empty refl
+
+either : (a b : Bool) → (a || (b || false)) ≡ cond b true a
+either true true = refl
+either true false = refl
+either false true = refl
+either false false = refl
+
+-- one name more
+pub one_name : (old new : BTreeSet RecordName) (names : List RecordName) (added : RecordName) → Updates name_cmp old new added true → HasNames old names → HasNames new (names ++ added ∷ [])
+one_name old new names added updates has name =
+    updates.0 name
+    ∙ ap (λ b. cond b true (contains name_cmp old name)) (tied added name)
+    ∙ ap (λ b. cond (same_name added name) true b) (has name)
+    ∙ sym (either (is_one_of names name) (same_name added name))
+    ∙ sym (list_any-append (λ one. same_name one name) names (added ∷ []))
+
+-- the next of some names
+pub next_name : (old new : BTreeSet RecordName) (names : List RecordName) (i : ℕ) (name : RecordName) → i < length names → name ≡ get_or names i name → Updates name_cmp old new name true
+    → HasNames old (take i names) → HasNames new (take (i + 1) names)
+next_name old new names i name less at updates has =
+    let one_on : i + 1 ≡ suc i = omega arith in
+    let next : take (i + 1) names ≡ take i names ++ name ∷ [] = ap (λ n. take n names) one_on ∙ take-suc names i name less ∙ ap (λ n. take i names ++ n ∷ []) (sym at) in
+    subst (HasNames new) (sym next) (one_name old new (take i names) name updates has)
+
+-- ---- records that others write
 
 -- the records so far, and then those that the acts from here on bring
 abbrev pub AreMetSoFar : (ours : List RecordName) → List Act → (names : List RecordName) → ℕ → Type 0

@@ -1,5 +1,5 @@
 -- Runs whose reports and records are printed.
-use Rattle.std.specs.Prelude.{◌≡◌, ◌⊎◌, ◌+◌, ℕ, Bool, true, false, List, [], ◌∷◌, ◌++◌, Option, Some, None, is_some}
+use Rattle.std.specs.Prelude.{◌≡◌, ◌⊎◌, ◌+◌, ℕ, Bool, true, false, List, [], ◌∷◌, ◌++◌, Option, Some, None, IfSome, is_some}
 use Rattle.std.specs.Prelude.{codes, length, map}
 use Rattle.std.specs.FinMap as fin
 use Rattle.std.specs.Fmt.{decimal}
@@ -29,14 +29,15 @@ use Rattle.world_sim.specs.declared.worlds.World.{World as Running}
 
 -- ---- lines
 
--- the line of the report with this number
-abbrev pub report_line : (number : ℕ) → Report → List ℕ
-report_line number report = decimal number ++ (codes " " ++ (report_text report ++ codes "\n"))
+-- the line of the report with this number, which says this text
+abbrev pub report_line : (number : ℕ) → (text : List ℕ) → List ℕ
+report_line number text = decimal number ++ (codes " " ++ (text ++ codes "\n"))
 
--- the lines of reports, the first of which has this number
-abbrev pub report_lines : (number : ℕ) → List Report → List ℕ
-report_lines number [] = []
-report_lines number (report ∷ reports) = report_line number report ++ report_lines (number + 1) reports
+-- the lines of reports of any kind, the first of which has this number; `text` is what a report says
+abbrev pub report_lines : {T : Type 0} → (text : T → List ℕ) → (number : ℕ) → List T → List ℕ
+report_lines text number [] = []
+report_lines text number (report ∷ reports) =
+    report_line number (text report) ++ report_lines text (number + 1) reports
 
 -- the line of a run to convergence, if there was one
 abbrev pub settled_lines : Option Count → List ℕ
@@ -67,14 +68,20 @@ others_lines views = lines_of whose.Others views
 -- ---- reports
 
 -- the reports that were printed
-abbrev pub printed_reports : {W : Type 0} → ReportLines W → List Report
+abbrev pub printed_reports : {T W : Type 0} → ReportLines T W → List T
 printed_reports lines = lines.reports.items
 
--- one more report was printed, as the next line
-pub record PrintsReport {W : Type 0} (contents : W → Option (List ℕ)) (old : ReportLines W) (report : Report)
-    (new : ReportLines W) : Type 0 where
+-- One more report was printed, as the next line. `output` is what a report is displayed as, if that is known
+pub record PrintsNext {T W : Type 0} (output : T → Option (List ℕ)) (contents : W → Option (List ℕ))
+    (old : ReportLines T W) (report : T) (new : ReportLines T W) : Type 0 where
   pub added : new.reports.items ≡ old.reports.items ++ report ∷ []
-  pub line : Appends (contents old.out) (contents new.out) (report_line (length old.reports.items + 1) report)
+  pub line : IfSome (output report) (λ text.
+      Appends (contents old.out) (contents new.out) (report_line (length old.reports.items + 1) text))
+
+-- the same of reports that say these texts
+abbrev pub PrintsReport : {T W : Type 0} → (text : T → List ℕ) → (contents : W → Option (List ℕ))
+    → (old : ReportLines T W) → (report : T) → (new : ReportLines T W) → Type 0
+PrintsReport text contents = PrintsNext (λ report. Some (text report)) contents
 
 -- ---- what is printed after the reports
 
@@ -131,7 +138,7 @@ pub record IsOf (base : List ℕ) (events : List Event) (reports : List Report) 
 -- What was printed: a line for each event with its report, the count if settling was asked for, and a line for each
 -- record. If both stores were empty, the provider's open, and both returned what was committed, all this is the model's
 pub record Prints {R J W : Type 0} (g : Registries R) (h : Journals J) (contents : W → Option (List ℕ))
-    (registry : R) (journal : J) (base : List ℕ) (events : List Event) (asked : Bool) (before after : ReportLines W)
+    (registry : R) (journal : J) (base : List ℕ) (events : List Event) (asked : Bool) (before after : ReportLines Report W)
     (printed : Printed R J) : Type 0 where
   pub reports : List Report
   pub count : Option Count
@@ -139,22 +146,22 @@ pub record Prints {R J W : Type 0} (g : Registries R) (h : Journals J) (contents
   pub one_each : length reports ≡ length events
   pub counted : is_some count ≡ asked
   pub lines : Appends (contents before.out) (contents after.out)
-      (report_lines (length before.reports.items + 1) reports
+      (report_lines report_text (length before.reports.items + 1) reports
       ++ (settled_lines count ++ view_lines printed.views.items))
   pub so : g.is_faithful registry → g.rows registry ≡ [] → h.entries journal ≡ fin.empty → IsSound g h printed.world
       → IsOf base events reports count printed.views.items
 
 -- all events were made and their reports printed, and something failed after them
 pub record StopsAfter {R J W : Type 0} (g : Registries R) (h : Journals J) (contents : W → Option (List ℕ))
-    (registry : R) (journal : J) (base : List ℕ) (events : List Event) (before after : ReportLines W) : Type 0 where
-  pub between : ReportLines W
+    (registry : R) (journal : J) (base : List ℕ) (events : List Event) (before after : ReportLines Report W) : Type 0 where
+  pub between : ReportLines Report W
   pub ran : Running R J
-  pub runs : RunsTelling g h printed_reports (PrintsReport contents) registry journal base events before between ran
+  pub runs : RunsTelling g h printed_reports (PrintsReport report_text contents) registry journal base events before between ran
   pub kept : after.reports ≡ between.reports
 
 -- Why a run ended early: as it does if its reports are told, or after all of them
 abbrev pub EndsPrinting : {R J W E : Type 0} → Registries R → Journals J → (contents : W → Option (List ℕ)) → R → J
-    → (base : List ℕ) → List Event → (before after : ReportLines W) → TellingFault E → Type 0
+    → (base : List ℕ) → List Event → (before after : ReportLines Report W) → TellingFault E → Type 0
 EndsPrinting g h contents registry journal base events before after fault =
-    EndsTelling g h printed_reports (PrintsReport contents) registry journal base events before after fault
+    EndsTelling g h printed_reports (PrintsReport report_text contents) registry journal base events before after fault
     ⊎ StopsAfter g h contents registry journal base events before after

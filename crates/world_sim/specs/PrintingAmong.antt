@@ -1,8 +1,7 @@
 -- Runs among others whose reports and records are printed.
-use Rattle.std.specs.Prelude.{◌≡◌, ◌⊎◌, ◌+◌, ℕ, Bool, List, [], ◌∷◌, ◌++◌, Option, Some, None, is_some}
-use Rattle.std.specs.Prelude.{codes, length, map}
+use Rattle.std.specs.Prelude.{◌≡◌, ◌⊎◌, ◌+◌, ℕ, Bool, List, [], ◌++◌, Option, Some, None, is_some}
+use Rattle.std.specs.Prelude.{length, map}
 use Rattle.std.specs.FinMap as fin
-use Rattle.std.specs.Fmt.{decimal}
 use Rattle.std.specs.Io.KnownBytes.{Appends}
 use Rattle.std.specs.List.{AllByRecursion}
 use Rattle.scim_key.specs.declared.records.RecordName.{RecordName}
@@ -15,7 +14,8 @@ use Rattle.world_model.specs.Room.{HasRoom}
 use Rattle.world_model.specs.World.{World, Event, empty, names as world_names, run}
 use Rattle.world_sim.specs.Amid.{IsApartFrom, RunsAmongFromEmpty, act_text, acts_of}
 use Rattle.world_sim.specs.FollowingAmong.{EndsTellingAmong, RunsTellingAmong}
-use Rattle.world_sim.specs.Printing.{SettlesIf, ShowsAll, others_lines, settled_lines, view_lines}
+use Rattle.world_sim.specs.Printing.{PrintsReport, SettlesIf, ShowsAll, others_lines, printed_reports, report_lines}
+use Rattle.world_sim.specs.Printing.{settled_lines, view_lines}
 use Rattle.world_sim.specs.Running.{IsAmong, IsSound}
 use Rattle.world_sim.specs.Settling.{IsSendOrDeliver, IsSettling}
 use Rattle.world_sim.specs.Strangers.{strangers}
@@ -23,32 +23,11 @@ use Rattle.world_sim.specs.Views.{view}
 use Rattle.world_sim.specs.declared.acting.Act.{Act}
 use Rattle.world_sim.specs.declared.acting.ActReport.{ActReport}
 use Rattle.world_sim.specs.declared.following.TellingFault.{TellingFault}
-use Rattle.world_sim.specs.declared.printing_among.ActLines.{ActLines}
+use Rattle.world_sim.specs.declared.printing.ReportLines.{ReportLines}
 use Rattle.world_sim.specs.declared.printing_among.PrintedAmong.{PrintedAmong}
 use Rattle.world_sim.specs.declared.settling.Count.{Count}
 use Rattle.world_sim.specs.declared.views.View.{View}
 use Rattle.world_sim.specs.declared.worlds.World.{World as Running}
-
--- ---- reports
-
--- the line of the report with this number
-abbrev pub act_line : (number : ℕ) → ActReport → List ℕ
-act_line number report = decimal number ++ (codes " " ++ (act_text report ++ codes "\n"))
-
--- the lines of reports, the first of which has this number
-abbrev pub act_lines : (number : ℕ) → List ActReport → List ℕ
-act_lines number [] = []
-act_lines number (report ∷ reports) = act_line number report ++ act_lines (number + 1) reports
-
--- the reports that were printed
-abbrev pub printed_acts : {W : Type 0} → ActLines W → List ActReport
-printed_acts lines = lines.reports.items
-
--- one more report was printed, as the next line
-pub record PrintsAct {W : Type 0} (contents : W → Option (List ℕ)) (old : ActLines W) (report : ActReport)
-    (new : ActLines W) : Type 0 where
-  pub added : new.reports.items ≡ old.reports.items ++ report ∷ []
-  pub line : Appends (contents old.out) (contents new.out) (act_line (length old.reports.items + 1) report)
 
 -- ---- what is printed after the reports
 
@@ -105,7 +84,7 @@ pub record IsOfAmong (all : List Act) (count : Option Count) (views others : Lis
 -- reports are those of the model's run (`promise`). If others left our records alone, whichever these are, the run to
 -- convergence and the views are the model's too (`so`)
 pub record PrintsAmong {R J W : Type 0} (g : Registries R) (h : Journals J) (contents : W → Option (List ℕ))
-    (registry : R) (journal : J) (base : List ℕ) (all : List Act) (asked : Bool) (before after : ActLines W)
+    (registry : R) (journal : J) (base : List ℕ) (all : List Act) (asked : Bool) (before after : ReportLines ActReport W)
     (printed : PrintedAmong R J) : Type 0 where
   pub reports : List ActReport
   pub count : Option Count
@@ -113,7 +92,7 @@ pub record PrintsAmong {R J W : Type 0} (g : Registries R) (h : Journals J) (con
   pub one_each : length reports ≡ length all
   pub counted : is_some count ≡ asked
   pub lines : Appends (contents before.out) (contents after.out)
-      (act_lines (length before.reports.items + 1) reports
+      (report_lines act_text (length before.reports.items + 1) reports
       ++ (settled_lines count ++ (view_lines printed.views.items ++ others_lines printed.others.items)))
   pub ran : Running R J
   pub was : IsSound g h printed.world → IsSound g h ran
@@ -124,15 +103,15 @@ pub record PrintsAmong {R J W : Type 0} (g : Registries R) (h : Journals J) (con
 
 -- all acts were done and their reports printed, and something failed after them
 pub record StopsAfterAmong {R J W : Type 0} (g : Registries R) (h : Journals J) (contents : W → Option (List ℕ))
-    (registry : R) (journal : J) (base : List ℕ) (all : List Act) (before after : ActLines W) : Type 0 where
-  pub between : ActLines W
+    (registry : R) (journal : J) (base : List ℕ) (all : List Act) (before after : ReportLines ActReport W) : Type 0 where
+  pub between : ReportLines ActReport W
   pub ran : Running R J
-  pub runs : RunsTellingAmong g h printed_acts (PrintsAct contents) registry journal base all before between ran
+  pub runs : RunsTellingAmong g h printed_reports (PrintsReport act_text contents) registry journal base all before between ran
   pub kept : after.reports ≡ between.reports
 
 -- Why a run ended early: as it does if its reports are told, or after all of them
 abbrev pub EndsPrintingAmong : {R J W E : Type 0} → Registries R → Journals J → (contents : W → Option (List ℕ)) → R
-    → J → (base : List ℕ) → List Act → (before after : ActLines W) → TellingFault E → Type 0
+    → J → (base : List ℕ) → List Act → (before after : ReportLines ActReport W) → TellingFault E → Type 0
 EndsPrintingAmong g h contents registry journal base all before after fault =
-    EndsTellingAmong g h printed_acts (PrintsAct contents) registry journal base all before after fault
+    EndsTellingAmong g h printed_reports (PrintsReport act_text contents) registry journal base all before after fault
     ⊎ StopsAfterAmong g h contents registry journal base all before after

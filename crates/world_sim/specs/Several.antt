@@ -260,13 +260,3 @@ pub record FailsAtTurn {R J : Type 0} (g : Registries R) (h : Journals J) (first
   pub split : turns ≡ early ++ turn ∷ late
   pub runs : RunsSeveral g h first last early said
   pub fails : FailsAtPlace g h last left turn.place (event_of turn.event) fault
-
--- the first of these turns were made, and none failed
-pub record StopsAfterTurns {R J : Type 0} (g : Registries R) (h : Journals J) (first : SharedWorld R J)
-    (turns : List TurnOf) : Type 0 where
-  pub ran : SharedWorld R J
-  pub early : List TurnOf
-  pub late : List TurnOf
-  pub said : List TurnReport
-  pub split : turns ≡ early ++ late
-  pub runs : RunsSeveral g h first ran early said

@@ -11,14 +11,17 @@ use Rattle.world_model.specs.Invariant.{Names}
 use Rattle.world_model.specs.Several.{Shared, nobody, world_at, run_several, NoneShared, EachItsOwn}
 use Rattle.world_model.specs.World.{names as world_names}
 use Rattle.world_sim.specs.Lines.{report_text}
-use Rattle.world_sim.specs.Printing.{ShowsAll, settled_lines, view_lines}
+use Rattle.world_sim.specs.Following.{Misses, Tells}
+use Rattle.world_sim.specs.Printing.{PrintsReport, ShowsAll, printed_reports, report_lines, settled_lines, view_lines}
 use Rattle.world_sim.specs.Events.{event_of}
-use Rattle.world_sim.specs.Several.{FailsAtPlace, FailsAtTurn, FailsToStart, HappensAt, StartsSeveral, StopsAfterTurns}
+use Rattle.world_sim.specs.Several.{FailsAtPlace, FailsAtTurn, FailsToStart, HappensAt, RunsSeveral, StartsSeveral}
 use Rattle.world_sim.specs.Several.{AreAmong, AreSettling, AreSound, IsDoneAt, IsNew, IsRunSeveral, SettlesEach}
 use Rattle.world_sim.specs.Several.{seats_of, turns_of}
 use Rattle.world_sim.specs.Views.{view}
 use Rattle.world_sim.specs.declared.following.TellingFault.{TellingFault}
 use Rattle.world_sim.specs.declared.following.TellingFault.TheVariants.{World, Untold}
+use Rattle.world_sim.specs.declared.printing.ReportLines.{ReportLines}
+use Rattle.world_sim.specs.declared.reports.WorldFault.{WorldFault}
 use Rattle.world_sim.specs.declared.several.SharedWorld.{SharedWorld}
 use Rattle.world_sim.specs.declared.several.Turn.{Turn}
 use Rattle.world_sim.specs.declared.several.TurnReport.{TurnReport}
@@ -31,15 +34,6 @@ use Rattle.world_sim.specs.declared.views.View.{View}
 -- the connector's number, and what its event reports
 abbrev pub turn_text : TurnReport → List ℕ
 turn_text said = decimal said.connector ++ (codes " " ++ report_text said.report)
-
--- the line of the turn with this number
-abbrev pub turn_line : (number : ℕ) → TurnReport → List ℕ
-turn_line number said = decimal number ++ (codes " " ++ (turn_text said ++ codes "\n"))
-
--- the lines of turns, the first of which has this number
-abbrev pub turn_lines : (number : ℕ) → List TurnReport → List ℕ
-turn_lines number [] = []
-turn_lines number (said ∷ more) = turn_line number said ++ turn_lines (number + 1) more
 
 -- the lines of the records of connectors, one connector after the other
 abbrev pub views_lines : List (List View) → List ℕ
@@ -75,6 +69,17 @@ pub record ShowsEachSide {R J : Type 0} (g : Registries R) (h : Journals J) (old
   pub is : AreSound g h new → {ours : ℕ → Names} (s : Shared) → AreAmong g h ours old s → AreAmong g h ours new s
   pub shown : AreSound g h new → {ours : ℕ → Names} (s : Shared) → AreAmong g h ours old s → views ≡ views_of s place
 
+-- records were settled if that was asked for, and then shown, each with its line
+pub record EndsSeveral {R J : Type 0} (g : Registries R) (h : Journals J) (asked : Bool) (world : SharedWorld R J)
+    (before after : Option (List ℕ)) (printed : PrintedSeveral R J) : Type 0 where
+  pub count : Option Count
+  pub settled : SharedWorld R J
+  pub settles : SettlesEachIf g h asked world settled count
+  pub shows : ShowsEachSide g h settled printed.world (length (seats_of settled))
+      (map (λ views. views.items) printed.views.items)
+  pub lines : Appends before after
+      (settled_lines count ++ views_lines (map (λ views. views.items) printed.views.items))
+
 -- ---- the whole run
 
 -- runs to convergence of so many sides lead from s to t, if there were any; otherwise t is s
@@ -98,49 +103,114 @@ pub record IsOfSeveral {R J : Type 0} (g : Registries R) (h : Journals J) (ours 
 -- for, and a line for each record of each connector. If all stores were empty, the provider's open, and all returned
 -- what was committed, all this is the model's, whichever records are whose, if no two connectors have a record in
 -- common and each source offers rows of its own records alone
-pub record PrintsSeveral {R J : Type 0} (g : Registries R) (h : Journals J) (registry : R) (journals : List J)
-    (base : List ℕ) (turns : List Turn) (asked : Bool) (before after : Option (List ℕ)) (printed : PrintedSeveral R J)
-    : Type 0 where
-  pub numbers : map (λ (t : TurnReport). t.connector) printed.reports.items
-      ≡ map (λ (turn : Turn). turn.place + 1) turns
+pub record PrintsSeveral {R J W : Type 0} (g : Registries R) (h : Journals J) (contents : W → Option (List ℕ))
+    (registry : R) (journals : List J) (base : List ℕ) (turns : List Turn) (asked : Bool)
+    (before after : ReportLines TurnReport W) (printed : PrintedSeveral R J) : Type 0 where
+  pub reports : List TurnReport
   pub count : Option Count
+  pub added : after.reports.items ≡ before.reports.items ++ reports
+  pub numbers : map (λ (t : TurnReport). t.connector) reports ≡ map (λ (turn : Turn). turn.place + 1) turns
   pub counted : is_some count ≡ asked
-  pub lines : Appends before after (turn_lines 1 printed.reports.items
+  pub lines : Appends (contents before.out) (contents after.out)
+      (report_lines turn_text (length before.reports.items + 1) reports
       ++ (settled_lines count ++ views_lines (map (λ views. views.items) printed.views.items)))
   pub so : g.is_faithful registry → g.rows registry ≡ [] → AllByRecursion (IsNew h) journals
       → AreSound g h printed.world → (ours : ℕ → Names) → NoneShared ours → EachItsOwn ours (turns_of turns)
-      → IsOfSeveral g h ours base turns printed.reports.items (length journals) count
-      (map (λ views. views.items) printed.views.items)
+      → IsOfSeveral g h ours base turns reports (length journals) count (map (λ views. views.items) printed.views.items)
+
+-- ---- turns whose reports are told
+
+-- the turn was made and its report told
+pub record FollowsTurn {R J F : Type 0} (g : Registries R) (h : Journals J) (told : F → List TurnReport)
+    (does : F → TurnReport → F → Type 0) (old new : SharedWorld R J) (turn : Turn) (before after : F) : Type 0 where
+  pub report : TurnReport
+  pub happens : HappensAt g h old new turn.place (event_of turn.event) report
+  pub added : told after ≡ told before ++ report ∷ []
+  pub done : does before report after
+
+-- the turn failed, and nothing was told
+pub record FailsTurnUntold {R J F : Type 0} (g : Registries R) (h : Journals J) (old new : SharedWorld R J)
+    (turn : Turn) (before after : F) (fault : WorldFault) : Type 0 where
+  pub fails : FailsAtPlace g h old new turn.place (event_of turn.event) fault
+  pub same : after ≡ before
+
+-- the turn was made, and its report couldn't be told
+pub record IsTurnUntold {R J F : Type 0} (g : Registries R) (h : Journals J) (told : F → List TurnReport)
+    (old new : SharedWorld R J) (turn : Turn) (before after : F) : Type 0 where
+  pub report : TurnReport
+  pub happens : HappensAt g h old new turn.place (event_of turn.event) report
+  pub same : told after ≡ told before
+
+-- why a run ended at a turn
+abbrev pub EndsTurn : {R J F E : Type 0} → Registries R → Journals J → (told : F → List TurnReport)
+    → (old new : SharedWorld R J) → Turn → (before after : F) → TellingFault E → Type 0
+EndsTurn g h told old new turn before after (World fault) = FailsTurnUntold g h old new turn before after fault
+EndsTurn g h told old new turn before after (Untold why) = IsTurnUntold g h told old new turn before after
+
+-- turns were made, one after the other, and their reports were told, and nothing else
+pub record RunsTurns {R J F : Type 0} (g : Registries R) (h : Journals J) (told : F → List TurnReport)
+    (does : F → TurnReport → F → Type 0) (old new : SharedWorld R J) (turns : List Turn) (before after : F)
+    : Type 0 where
+  pub reports : List TurnReport
+  pub runs : RunsSeveral g h old new turns reports
+  pub tells : Tells told does before after reports
+
+-- a turn failed, and the reports of the turns before it were told
+pub record FailsTurns {R J F : Type 0} (g : Registries R) (h : Journals J) (told : F → List TurnReport)
+    (does : F → TurnReport → F → Type 0) (first : SharedWorld R J) (turns : List Turn) (before after : F)
+    (fault : WorldFault) : Type 0 where
+  pub fails : FailsAtTurn g h first turns fault
+  pub tells : Tells told does before after fails.said
+
+-- a turn was made whose report couldn't be told, and the reports of the turns before it were told
+pub record StopsTurns {R J F : Type 0} (g : Registries R) (h : Journals J) (told : F → List TurnReport)
+    (does : F → TurnReport → F → Type 0) (first : SharedWorld R J) (turns : List Turn) (before after : F)
+    : Type 0 where
+  pub last : SharedWorld R J
+  pub early : List Turn
+  pub turn : Turn
+  pub late : List Turn
+  pub reports : List TurnReport
+  pub report : TurnReport
+  pub split : turns ≡ early ++ turn ∷ late
+  pub runs : RunsSeveral g h first last (early ++ turn ∷ []) (reports ++ report ∷ [])
+  pub misses : Misses told does before after reports
+
+-- why turns ended early, and what was told of them
+abbrev pub EndsTurns : {R J F E : Type 0} → Registries R → Journals J → (told : F → List TurnReport)
+    → (does : F → TurnReport → F → Type 0) → (first : SharedWorld R J) → List Turn → (before after : F)
+    → TellingFault E → Type 0
+EndsTurns g h told does first turns before after (World fault) = FailsTurns g h told does first turns before after fault
+EndsTurns g h told does first turns before after (Untold why) = StopsTurns g h told does first turns before after
 
 -- ---- why a run ended early
 
--- a turn failed, or it was made and its line couldn't be printed
-abbrev pub EndsTurn : {R J E : Type 0} → Registries R → Journals J → (old new : SharedWorld R J) → Turn
-    → TellingFault E → Type 0
-EndsTurn g h old new turn (World fault) = FailsAtPlace g h old new turn.place (event_of turn.event) fault
-EndsTurn g h old new turn (Untold why) =
-    (said : TurnReport) × HappensAt g h old new turn.place (event_of turn.event) said
+-- all turns were made and their reports printed, and something failed after them
+pub record StopsAfterTurns {R J W : Type 0} (g : Registries R) (h : Journals J) (contents : W → Option (List ℕ))
+    (first : SharedWorld R J) (turns : List Turn) (before after : ReportLines TurnReport W) : Type 0 where
+  pub between : ReportLines TurnReport W
+  pub ran : SharedWorld R J
+  pub runs : RunsTurns g h printed_reports (PrintsReport turn_text contents) first ran turns before between
+  pub kept : after.reports ≡ between.reports
 
--- a turn failed; or no turn did, and a line couldn't be printed, or something failed after the turns
-abbrev pub EndsTurns : {R J E : Type 0} → Registries R → Journals J → (first : SharedWorld R J) → List Turn
-    → TellingFault E → Type 0
-EndsTurns g h first turns (World fault) = FailsAtTurn g h first turns fault ⊎ StopsAfterTurns g h first turns
-EndsTurns g h first turns (Untold why) = StopsAfterTurns g h first turns
-
--- the turns of connectors that started over these journals ended so
-pub record EndsStarted {R J E : Type 0} (g : Registries R) (h : Journals J) (registry : R) (journals : List J)
-    (base : List ℕ) (turns : List Turn) (fault : TellingFault E) : Type 0 where
+-- connectors started over these journals, and their turns ended as their reports were told, or after all of them
+pub record EndsStarted {R J W E : Type 0} (g : Registries R) (h : Journals J) (contents : W → Option (List ℕ))
+    (registry : R) (journals : List J) (base : List ℕ) (turns : List Turn) (before after : ReportLines TurnReport W)
+    (fault : TellingFault E) : Type 0 where
   pub first : SharedWorld R J
   pub starts : StartsSeveral g h registry journals base first
-  pub ends : EndsTurns g h first turns fault
+  pub ends : EndsTurns g h printed_reports (PrintsReport turn_text contents) first turns before after fault
+      ⊎ StopsAfterTurns g h contents first turns before after
 
--- a connector didn't start
-abbrev pub IsUnstartedSeveral : {J E : Type 0} → Journals J → List J → TellingFault E → Type 0
-IsUnstartedSeveral h journals (World fault) = FailsToStart h journals fault
-IsUnstartedSeveral h journals (Untold why) = ⊥
+-- a connector didn't start, and nothing was printed
+abbrev pub IsUnstartedSeveral : {J W E : Type 0} → Journals J → List J → (before after : ReportLines TurnReport W)
+    → TellingFault E → Type 0
+IsUnstartedSeveral h journals before after (World fault) = FailsToStart h journals fault × (after ≡ before)
+IsUnstartedSeveral h journals before after (Untold why) = ⊥
 
 -- Why a run ended early: a connector didn't start, or the run ended after some of the turns
-abbrev pub EndsPrintingSeveral : {R J E : Type 0} → Registries R → Journals J → R → List J → (base : List ℕ)
-    → List Turn → TellingFault E → Type 0
-EndsPrintingSeveral g h registry journals base turns fault =
-    IsUnstartedSeveral h journals fault ⊎ EndsStarted g h registry journals base turns fault
+abbrev pub EndsPrintingSeveral : {R J W E : Type 0} → Registries R → Journals J → (contents : W → Option (List ℕ)) → R
+    → List J → (base : List ℕ) → List Turn → (before after : ReportLines TurnReport W) → TellingFault E → Type 0
+EndsPrintingSeveral g h contents registry journals base turns before after fault =
+    IsUnstartedSeveral h journals before after fault
+    ⊎ EndsStarted g h contents registry journals base turns before after fault

@@ -1,7 +1,8 @@
 -- Records that others write by rows.
-use Rattle.std.specs.Prelude.{Bool, if◌then◌else◌, List, [], ◌∷◌, ◌++◌, Option, Some, None, option_to_list}
+use Rattle.std.specs.BTreeSet.{BTreeSet, contains}
+use Rattle.std.specs.Prelude.{◌≡◌, Bool, if◌then◌else◌, List, [], ◌∷◌, ◌++◌, Option, Some, None, option_to_list}
 use Rattle.std.specs.List.{list_any}
-use Rattle.scim_key.specs.Records.{same_name}
+use Rattle.scim_key.specs.Records.{name_cmp, same_name}
 use Rattle.scim_key.specs.declared.records.RecordName.{RecordName}
 use Rattle.source_csv.specs.Records.{row_name}
 use Rattle.world_sim.specs.declared.acting.Act.{Act}
@@ -11,6 +12,10 @@ use Rattle.world_sim.specs.declared.events.Event.TheVariants as events
 
 abbrev pub is_one_of : List RecordName → RecordName → Bool
 is_one_of names name = list_any (λ one. same_name one name) names
+
+-- a set has just these names
+abbrev pub HasNames : BTreeSet RecordName → List RecordName → Type 0
+HasNames set names = (name : RecordName) → contains name_cmp set name ≡ is_one_of names name
 
 -- the record that others write by the row of an act, if it isn't known
 abbrev pub met : (known : List RecordName) → Act → Option RecordName

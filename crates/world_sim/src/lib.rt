@@ -31,7 +31,7 @@ pub use events::Event;
 pub use following::{Follow, TellingFault, run_telling};
 pub use laws::{answers_fit, messages_are_read, without_others};
 pub use printing::{Printed, ReportLines, print_run};
-pub use printing_among::{ActLines, PrintedAmong, print_run_among};
+pub use printing_among::{PrintedAmong, print_run_among};
 pub use random::random_schedule;
 pub use reports::{Report, WorldFault};
 pub use runs::run;

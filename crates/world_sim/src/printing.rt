@@ -1,8 +1,8 @@
 //! Runs whose reports and records are printed.
-ghost use Rattle.std.specs.Prelude.{◌≡◌, ◌+◌, ◌++◌, ◌∷◌, [], IfErr, IfOk, OnOk, Some, length};
+ghost use Rattle.std.specs.Prelude.{◌≡◌, ◌+◌, ◌++◌, ◌∷◌, [], IfErr, IfOk, IfSome, OnOk, Some, length};
 ghost use Rattle.std.specs.Io.KnownBytes.{Appends, Keeps};
 ghost use Rattle.world_sim.specs.Events.{events_of};
-ghost use Rattle.world_sim.specs.Printing.{Ends, EndsPrinting, Prints, PrintsReport, SettlesIf, ShowsAll, ShowsEach, line_of, lines_of, printed_reports, report_line, settled_lines, view_lines};
+ghost use Rattle.world_sim.specs.Printing.{Ends, EndsPrinting, Prints, PrintsNext, SettlesIf, ShowsAll, ShowsEach, line_of, lines_of, printed_reports, report_line, settled_lines, view_lines};
 ghost use Rattle.world_sim.specs.Views.{Looks, Shows};
 
 use crate::events::Event;
@@ -15,20 +15,22 @@ use journal_core::{Journal, ReopenJournal};
 use provider_core::{Registry, Reopen};
 use scim_key::{Base, RecordName};
 use std::alloc::Global;
+use std::fmt::Display;
 use std::io;
 use std::io::Write;
 
-/// Prints a line for each report as soon as it is told: its number, and what it says: `2 find 1`.
+/// Prints a line for each report of an event or an act as soon as it is told: its number, and what it says:
+/// `2 find 1`.
 #[derive(Drop)]
-pub struct ReportLines<W: Write + Drop> {
+pub struct ReportLines<T: Drop, W: Write + Drop> {
     pub out: W,
     /// The reports so far.
-    pub reports: Vec<Report>,
+    pub reports: Vec<T>,
 }
 
-impl<W: Write + Drop> ReportLines<W> {
+impl<T: Drop, W: Write + Drop> ReportLines<T, W> {
     /// No line is printed yet.
-    pub fn new(alloc: Global, out: W) -> ReportLines<W>
+    pub fn new(alloc: Global, out: W) -> ReportLines<T, W>
         ensures out { result.out ≡ out }
         ensures none { result.reports.items ≡ [] }
     {
@@ -40,21 +42,21 @@ impl<W: Write + Drop> ReportLines<W> {
 }
 
 /// Prints the line of the report with this number.
-fn print_report<W: Write>(out: &mut W, number: usize, report: &Report) -> io::Result<()>
-    ensures { OnOk result (Appends (W.contents out.old) (W.contents out.new)
-        (report_line number report.now)) }
+fn print_report<T: Display, W: Write>(out: &mut W, number: usize, report: &T) -> io::Result<()>
+    ensures { OnOk result (IfSome (T.output report.now) (λ text.
+        Appends (W.contents out.old) (W.contents out.new) (report_line number text))) }
 {
     writeln!(out, "{number} {report}")
 }
 
-impl<W: Write + Drop> Follow<Report> for ReportLines<W> {
+impl<T: Display + Drop, W: Write + Drop> Follow<T> for ReportLines<T, W> {
     type Fault = io::Error;
 
     ghost told = { printed_reports };
 
-    ghost does = { PrintsReport W.contents };
+    ghost does = { PrintsNext T.output W.contents };
 
-    fn tell(&mut self, report: Report) -> io::Result<()> {
+    fn tell(&mut self, report: T) -> io::Result<()> {
         let number = self.reports.len() + 1;
         print_report(&mut self.out, number, &report)?;
         self.reports.push(report)?;
@@ -79,7 +81,7 @@ pub fn print_run<R: Reopen + Drop, J: ReopenJournal + Drop, W: Write + Drop>(
     base: Base,
     events: &[Event],
     settles: bool,
-    lines: &mut ReportLines<W>,
+    lines: &mut ReportLines<Report, W>,
 ) -> Result<Printed<R, J>, TellingFault<io::Error>>
     ensures prints { IfOk result (Prints R.Registry J.Journal W.contents registry journal base
         (events_of events.now) settles lines.old lines.new) }

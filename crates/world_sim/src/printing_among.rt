@@ -1,16 +1,16 @@
 //! Runs among others whose reports and records are printed.
-ghost use Rattle.std.specs.Prelude.{◌≡◌, [], IfErr, IfOk, OnOk, true};
+ghost use Rattle.std.specs.Prelude.{◌≡◌, IfErr, IfOk, OnOk, true};
 ghost use Rattle.std.specs.Io.KnownBytes.{Appends};
 ghost use Rattle.mapping.specs.Settling.{IsSettleOrder};
 ghost use Rattle.world_sim.specs.Printing.{others_lines};
-ghost use Rattle.world_sim.specs.PrintingAmong.{EndsAmong, EndsPrintingAmong, PrintsAct, PrintsAmong, ShowsOthers, act_line, printed_acts};
+ghost use Rattle.world_sim.specs.PrintingAmong.{EndsAmong, EndsPrintingAmong, PrintsAmong, ShowsOthers};
 ghost use Rattle.world_sim.specs.Running.{is_open, names_in};
 ghost use Rattle.world_sim.specs.Strangers.{strangers};
 
 use crate::acting::{Act, ActReport};
 use crate::among::run_telling_among;
-use crate::following::{Follow, TellingFault};
-use crate::printing::{Whose, flush, print_each, print_settling, print_views};
+use crate::following::TellingFault;
+use crate::printing::{ReportLines, Whose, flush, print_each, print_settling, print_views};
 use crate::reports::WorldFault;
 use crate::strangers::strangers;
 use crate::views::View;
@@ -21,50 +21,6 @@ use scim_key::{Base, RecordName};
 use std::alloc::Global;
 use std::io;
 use std::io::Write;
-
-/// Prints a line for each report of an act as soon as it is told: its number, and what it says: `2 other 201`.
-#[derive(Drop)]
-pub struct ActLines<W: Write + Drop> {
-    pub out: W,
-    /// The reports so far.
-    pub reports: Vec<ActReport>,
-}
-
-impl<W: Write + Drop> ActLines<W> {
-    /// No line is printed yet.
-    pub fn new(alloc: Global, out: W) -> ActLines<W>
-        ensures out { result.out ≡ out }
-        ensures none { result.reports.items ≡ [] }
-    {
-        ActLines {
-            out,
-            reports: Vec::new(alloc),
-        }
-    }
-}
-
-/// Prints the line of the report with this number.
-fn print_act<W: Write>(out: &mut W, number: usize, report: &ActReport) -> io::Result<()>
-    ensures { OnOk result (Appends (W.contents out.old) (W.contents out.new)
-        (act_line number report.now)) }
-{
-    writeln!(out, "{number} {report}")
-}
-
-impl<W: Write + Drop> Follow<ActReport> for ActLines<W> {
-    type Fault = io::Error;
-
-    ghost told = { printed_acts };
-
-    ghost does = { PrintsAct W.contents };
-
-    fn tell(&mut self, report: ActReport) -> io::Result<()> {
-        let number = self.reports.len() + 1;
-        print_act(&mut self.out, number, &report)?;
-        self.reports.push(report)?;
-        Ok(())
-    }
-}
 
 /// The world and the views of its records, after a run among others whose lines were printed.
 #[derive(Drop)]
@@ -86,7 +42,7 @@ pub fn print_run_among<R: Reopen + Drop, J: ReopenJournal + Drop, W: Write + Dro
     base: Base,
     acts: &[Act],
     settles: bool,
-    lines: &mut ActLines<W>,
+    lines: &mut ReportLines<ActReport, W>,
 ) -> Result<PrintedAmong<R, J>, TellingFault<io::Error>>
     ensures prints { IfOk result (PrintsAmong R.Registry J.Journal W.contents registry journal base
         acts.now settles lines.old lines.new) }

@@ -2,13 +2,12 @@
 ghost use Rattle.std.specs.Prelude.{◌≡◌, ◌<◌, ◌++◌, ◌∷◌, ◌+◌, [], IfErr, IfOk, OnOk, length, map};
 ghost use Rattle.std.specs.Io.KnownBytes.{Appends};
 ghost use Rattle.std.specs.List.{AllByRecursion};
-ghost use Rattle.world_sim.specs.Events.{event_of};
 ghost use Rattle.world_sim.specs.Printing.{settled_lines, view_lines};
-ghost use Rattle.world_sim.specs.Several.{HappensAt, IsBelow, RunsSeveral, seats_of};
-ghost use Rattle.world_sim.specs.SeveralPrinting.{EndsPrintingSeveral, EndsTurn, EndsTurns, PrintsSeveral, SettlesEachIf, ShowsAt, ShowsEachSide, turn_line, turn_lines, views_lines};
+ghost use Rattle.world_sim.specs.Several.{IsBelow, seats_of};
+ghost use Rattle.world_sim.specs.SeveralPrinting.{EndsPrintingSeveral, EndsSeveral, EndsTurn, EndsTurns, FollowsTurn, PrintsSeveral, RunsTurns, SettlesEachIf, ShowsAt, ShowsEachSide, views_lines};
 
-use crate::following::TellingFault;
-use crate::printing::{flush, print_count, print_views};
+use crate::following::{Follow, TellingFault, tell};
+use crate::printing::{ReportLines, flush, print_count, print_views};
 use crate::reports::WorldFault;
 use crate::settling::Count;
 use crate::several::{SharedWorld, Turn, TurnReport};
@@ -24,67 +23,44 @@ use std::io::Write;
 #[derive(Drop)]
 pub struct PrintedSeveral<R: Registry, J: Journal> {
     pub world: SharedWorld<R, J>,
-    /// The report of each turn.
-    pub reports: Vec<TurnReport>,
     /// The views of the records of each connector.
     pub views: Vec<Vec<View>>,
 }
 
-/// Prints the line of the turn with this number.
-fn print_said<W: Write>(out: &mut W, number: usize, said: &TurnReport) -> io::Result<()>
-    ensures { OnOk result (Appends (W.contents out.old) (W.contents out.new)
-        (turn_line number said.now)) }
-{
-    writeln!(out, "{number} {said}")
-}
-
-/// Makes a turn, and prints its line.
-fn print_turn<R: Reopen + Drop, J: ReopenJournal + Drop, W: Write>(
+/// Makes a turn, and tells its report.
+fn turn_telling<R: Reopen + Drop, J: ReopenJournal + Drop, F: Follow<TurnReport>>(
     world: &mut SharedWorld<R, J>,
     turn: &Turn,
-    number: usize,
-    out: &mut W,
-) -> Result<TurnReport, TellingFault<io::Error>>
+    follower: &mut F,
+) -> Result<(), TellingFault<F::Fault>>
     requires { turn.now.place < length (seats_of world.old) }
-    ensures done { IfOk result (HappensAt R.Registry J.Journal world.old world.new turn.now.place
-        (event_of turn.now.event)) }
-    ensures line { IfOk result (λ said. Appends (W.contents out.old) (W.contents out.new)
-        (turn_line number said)) }
-    ensures fault { IfErr result (EndsTurn R.Registry J.Journal world.old world.new turn.now) }
+    ensures done { OnOk result (FollowsTurn R.Registry J.Journal F.told F.does world.old world.new
+        turn.now follower.old follower.new) }
+    ensures fault { IfErr result (EndsTurn R.Registry J.Journal F.told world.old world.new
+        turn.now follower.old follower.new) }
 {
-    let said = world.step(turn.place, &turn.event)?;
-    print_said(out, number, &said)?;
-    Ok(said)
+    match world.step(turn.place, &turn.event) {
+        Ok(report) => tell(follower, report),
+        Err(fault) => Err(TellingFault::World(fault)),
+    }
 }
 
-/// Adds a report at the end.
-fn keep(reports: &mut Vec<TurnReport>, said: TurnReport) -> Result<(), WorldFault>
-    ensures { OnOk result (reports.new.items ≡ reports.old.items ++ said ∷ []) }
-{
-    reports.push(said)?;
-    Ok(())
-}
-
-/// Makes turns, one after the other, and prints the line of each as it comes.
-fn print_turns<R: Reopen + Drop, J: ReopenJournal + Drop, W: Write>(
-    alloc: Global,
+/// Makes turns, one after the other, and tells the report of each as it comes.
+fn turns_telling<R: Reopen + Drop, J: ReopenJournal + Drop, F: Follow<TurnReport>>(
     world: &mut SharedWorld<R, J>,
     turns: &[Turn],
-    out: &mut W,
-) -> Result<Vec<TurnReport>, TellingFault<io::Error>>
+    follower: &mut F,
+) -> Result<(), TellingFault<F::Fault>>
     requires { AllByRecursion (IsBelow (length (seats_of world.old))) turns.now }
-    ensures runs { IfOk result (λ said. RunsSeveral R.Registry J.Journal world.old world.new
-        turns.now said.items) }
-    ensures lines { IfOk result (λ said. Appends (W.contents out.old) (W.contents out.new)
-        (turn_lines 1 said.items)) }
-    ensures fault { IfErr result (EndsTurns R.Registry J.Journal world.old turns.now) }
+    ensures runs { OnOk result (RunsTurns R.Registry J.Journal F.told F.does world.old world.new
+        turns.now follower.old follower.new) }
+    ensures fault { IfErr result (EndsTurns R.Registry J.Journal F.told F.does world.old
+        turns.now follower.old follower.new) }
 {
-    let mut said = Vec::new(alloc);
     for turn in turns {
-        let report = print_turn(world, turn, said.len() + 1, out)?;
-        keep(&mut said, report)?;
+        turn_telling(world, turn, follower)?;
     }
-    Ok(said)
+    Ok(())
 }
 
 /// Settles the records of each connector if that is asked for, and prints how many exchanges that took.
@@ -159,7 +135,7 @@ fn print_all_views<R: Registry + Drop, J: Journal + Drop, W: Write>(
 /// for each as it comes. Then it settles the records of each connector if that is asked for, and prints how many
 /// exchanges that took in all, and a line for each record of each connector. For each of them the promise holds,
 /// if no two have a record in common.
-pub fn print_several<R: Reopen + Drop, J: ReopenJournal + Drop, W: Write>(
+pub fn print_several<R: Reopen + Drop, J: ReopenJournal + Drop, W: Write + Drop>(
     alloc: Global,
     registry: R,
     first: J,
@@ -167,22 +143,31 @@ pub fn print_several<R: Reopen + Drop, J: ReopenJournal + Drop, W: Write>(
     base: Base,
     turns: &[Turn],
     settles: bool,
-    out: &mut W,
+    lines: &mut ReportLines<TurnReport, W>,
 ) -> Result<PrintedSeveral<R, J>, TellingFault<io::Error>>
     requires { AllByRecursion (IsBelow (length others.items + 1)) turns.now }
-    ensures prints { IfOk result (PrintsSeveral R.Registry J.Journal registry (first ∷ others.items)
-        base turns.now settles (W.contents out.old) (W.contents out.new)) }
-    ensures fault { IfErr result (EndsPrintingSeveral R.Registry J.Journal registry
-        (first ∷ others.items) base turns.now) }
+    ensures prints { IfOk result (PrintsSeveral R.Registry J.Journal W.contents registry
+        (first ∷ others.items) base turns.now settles lines.old lines.new) }
+    ensures fault { IfErr result (EndsPrintingSeveral R.Registry J.Journal W.contents registry
+        (first ∷ others.items) base turns.now lines.old lines.new) }
 {
     let mut world = SharedWorld::start(alloc, registry, first, others, base)?;
-    let reports = print_turns(alloc, &mut world, turns, out)?;
+    turns_telling(&mut world, turns, lines)?;
+    print_end_several(alloc, world, settles, &mut lines.out)
+}
+
+/// Settles the records of each connector if that is asked for, and then prints the records.
+fn print_end_several<R: Registry + Drop, J: Journal + Drop, W: Write>(
+    alloc: Global,
+    mut world: SharedWorld<R, J>,
+    settles: bool,
+    out: &mut W,
+) -> Result<PrintedSeveral<R, J>, TellingFault<io::Error>>
+    ensures { IfOk result (EndsSeveral R.Registry J.Journal settles world
+        (W.contents out.old) (W.contents out.new)) }
+{
     print_settling(&mut world, settles, out)?;
     let views = print_all_views(alloc, &mut world, out)?;
     flush(out)?;
-    Ok(PrintedSeveral {
-        world,
-        reports,
-        views,
-    })
+    Ok(PrintedSeveral { world, views })
 }

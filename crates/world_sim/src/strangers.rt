@@ -1,35 +1,42 @@
 //! Records that others write and that aren't ours.
-ghost use Rattle.std.specs.Prelude.{◌≡◌, ◌++◌, IfOk};
+ghost use Rattle.std.specs.Prelude.{◌≡◌, IfOk, List};
 ghost use Rattle.mapping.specs.Settling.{IsSettleOrder};
+ghost use Rattle.scim_key.specs.declared.records.RecordName.{RecordName};
 ghost use Rattle.world_sim.specs.Strangers as spec;
+ghost use Rattle.world_sim.specs.Strangers.{HasNames};
 
 use crate::acting::Act;
 use crate::events::Event;
 use mapping::settle_order;
 use scim_key::RecordName;
 use std::alloc::{AllocError, Global};
+use std::collections::BTreeSet;
 
-/// Whether a record is one of these.
-fn is_one_of(names: &[RecordName], name: &RecordName) -> bool
-    ensures { result ≡ spec.is_one_of names.now name.now }
+/// These names as a set.
+fn set_of(alloc: Global, names: &[RecordName]) -> Result<BTreeSet<RecordName>, AllocError>
+    ensures { IfOk result (λ set. HasNames set names.now) }
 {
-    names.iter().any(|one| one == name)
+    let mut set = BTreeSet::new(alloc);
+    for name in names {
+        set.insert(name.clone()?)?;
+    }
+    Ok(set)
 }
 
-/// The record that others write by the row of this act, if it is none of these.
+/// The record that others write by the row of this act, if it isn't known.
 fn met(
     alloc: Global,
-    ours: &[RecordName],
-    names: &[RecordName],
+    known: &BTreeSet<RecordName>,
     act: &Act,
 ) -> Result<Option<RecordName>, AllocError>
-    ensures { IfOk result (λ name. name ≡ spec.met (ours.now ++ names.now) act.now) }
+    ensures { (names : List RecordName) → HasNames known.now names
+        → IfOk result (λ name. name ≡ spec.met names act.now) }
 {
     let Act::WritesRow(row) = act else {
         return Ok(None);
     };
     let name = row.record_name(alloc)?;
-    if is_one_of(ours, &name) || is_one_of(names, &name) {
+    if known.contains(&name) {
         return Ok(None);
     }
     Ok(Some(name))
@@ -39,9 +46,11 @@ fn met(
 fn all_met(alloc: Global, ours: &[RecordName], acts: &[Act]) -> Result<Vec<RecordName>, AllocError>
     ensures { IfOk result (λ names. names.items ≡ spec.strangers ours.now acts.now) }
 {
-    let mut names: Vec<RecordName> = Vec::new(alloc);
+    let mut known = set_of(alloc, ours)?;
+    let mut names = Vec::new(alloc);
     for act in acts {
-        if let Some(name) = met(alloc, ours, names.as_slice(), act)? {
+        if let Some(name) = met(alloc, &known, act)? {
+            known.insert(name.clone()?)?;
             names.push(name)?;
         }
     }
@@ -75,14 +84,14 @@ fn offer(alloc: Global, act: &Act) -> Result<Option<RecordName>, AllocError>
     }
 }
 
-/// The records of which our source offers rows by these acts, in their order.
-pub fn offered(alloc: Global, acts: &[Act]) -> Result<Vec<RecordName>, AllocError>
-    ensures { IfOk result (λ names. names.items ≡ spec.offered acts.now) }
+/// The records of which our source offers rows by these acts.
+pub fn offered(alloc: Global, acts: &[Act]) -> Result<BTreeSet<RecordName>, AllocError>
+    ensures { IfOk result (λ names. HasNames names (spec.offered acts.now)) }
 {
-    let mut names = Vec::new(alloc);
+    let mut names = BTreeSet::new(alloc);
     for act in acts {
         if let Some(name) = offer(alloc, act)? {
-            names.push(name)?;
+            names.insert(name)?;
         }
     }
     Ok(names)
@@ -91,16 +100,17 @@ pub fn offered(alloc: Global, acts: &[Act]) -> Result<Vec<RecordName>, AllocErro
 /// The record that others write by the row of this act, if it is one of these.
 pub fn contested(
     alloc: Global,
-    ours: &[RecordName],
+    ours: &BTreeSet<RecordName>,
     act: &Act,
 ) -> Result<Option<RecordName>, AllocError>
-    ensures { IfOk result (λ name. name ≡ spec.contested ours.now act.now) }
+    ensures { (names : List RecordName) → HasNames ours.now names
+        → IfOk result (λ name. name ≡ spec.contested names act.now) }
 {
     let Act::WritesRow(row) = act else {
         return Ok(None);
     };
     let name = row.record_name(alloc)?;
-    if !is_one_of(ours, &name) {
+    if !ours.contains(&name) {
         return Ok(None);
     }
     Ok(Some(name))
