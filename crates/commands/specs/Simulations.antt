@@ -24,8 +24,8 @@ use Rattle.commands.specs.declared.status.Status.{Status}
 
 -- The lines of the reports, of the run to convergence and of the records were printed, and the status is theirs
 pub record Simulates {R J W : Type 0} (g : Registries R) (h : Journals J) (contents : W → Option (List ℕ))
-    (registry : R) (journal : J) (base : List ℕ) (events : List Event) (asked : Bool) (before after : ReportLines Report W)
-    (status : Status) : Type 0 where
+    (registry : R) (journal : J) (base : List ℕ) (events : List Event) (asked : Bool)
+    (before after : ReportLines Report W) (status : Status) : Type 0 where
   pub printed : Printed R J
   pub prints : Prints g h contents registry journal base events asked before after printed
   pub status_is : status ≡ simulated_status after.reports.items printed.views.items

@@ -64,8 +64,8 @@ acted_status reports views = if list_all is_taken_act reports && list_all is_con
 -- The lines of the reports, of the run to convergence, of our records and of those of others were printed, and the
 -- status is that of ours
 pub record SimulatesAmong {R J W : Type 0} (g : Registries R) (h : Journals J) (contents : W → Option (List ℕ))
-    (registry : R) (journal : J) (base : List ℕ) (all : List Act) (asked : Bool) (before after : ReportLines ActReport W)
-    (status : Status) : Type 0 where
+    (registry : R) (journal : J) (base : List ℕ) (all : List Act) (asked : Bool)
+    (before after : ReportLines ActReport W) (status : Status) : Type 0 where
   pub printed : PrintedAmong R J
   pub prints : PrintsAmong g h contents registry journal base all asked before after printed
   pub status_is : status ≡ acted_status after.reports.items printed.views.items

@@ -1,4 +1,4 @@
--- The change of a pending outcome, whose content is in its answer.
+-- The change that a `Pending` stands for. Its content is kept in the answer alone.
 use Rattle.std.specs.Prelude.{Option, Some, None}
 use Rattle.scim_resource.specs.Rows.{RowVersionRecord, row_of}
 use Rattle.scim_message.specs.declared.messages.Answer.{Answer}

@@ -138,8 +138,8 @@ pub record IsOf (base : List ℕ) (events : List Event) (reports : List Report) 
 -- What was printed: a line for each event with its report, the count if settling was asked for, and a line for each
 -- record. If both stores were empty, the provider's open, and both returned what was committed, all this is the model's
 pub record Prints {R J W : Type 0} (g : Registries R) (h : Journals J) (contents : W → Option (List ℕ))
-    (registry : R) (journal : J) (base : List ℕ) (events : List Event) (asked : Bool) (before after : ReportLines Report W)
-    (printed : Printed R J) : Type 0 where
+    (registry : R) (journal : J) (base : List ℕ) (events : List Event) (asked : Bool)
+    (before after : ReportLines Report W) (printed : Printed R J) : Type 0 where
   pub reports : List Report
   pub count : Option Count
   pub added : after.reports.items ≡ before.reports.items ++ reports
@@ -153,10 +153,12 @@ pub record Prints {R J W : Type 0} (g : Registries R) (h : Journals J) (contents
 
 -- all events were made and their reports printed, and something failed after them
 pub record StopsAfter {R J W : Type 0} (g : Registries R) (h : Journals J) (contents : W → Option (List ℕ))
-    (registry : R) (journal : J) (base : List ℕ) (events : List Event) (before after : ReportLines Report W) : Type 0 where
+    (registry : R) (journal : J) (base : List ℕ) (events : List Event)
+    (before after : ReportLines Report W) : Type 0 where
   pub between : ReportLines Report W
   pub ran : Running R J
-  pub runs : RunsTelling g h printed_reports (PrintsReport report_text contents) registry journal base events before between ran
+  pub runs : RunsTelling g h printed_reports (PrintsReport report_text contents)
+      registry journal base events before between ran
   pub kept : after.reports ≡ between.reports
 
 -- Why a run ended early: as it does if its reports are told, or after all of them

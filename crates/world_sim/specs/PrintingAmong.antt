@@ -84,8 +84,8 @@ pub record IsOfAmong (all : List Act) (count : Option Count) (views others : Lis
 -- reports are those of the model's run (`promise`). If others left our records alone, whichever these are, the run to
 -- convergence and the views are the model's too (`so`)
 pub record PrintsAmong {R J W : Type 0} (g : Registries R) (h : Journals J) (contents : W → Option (List ℕ))
-    (registry : R) (journal : J) (base : List ℕ) (all : List Act) (asked : Bool) (before after : ReportLines ActReport W)
-    (printed : PrintedAmong R J) : Type 0 where
+    (registry : R) (journal : J) (base : List ℕ) (all : List Act) (asked : Bool)
+    (before after : ReportLines ActReport W) (printed : PrintedAmong R J) : Type 0 where
   pub reports : List ActReport
   pub count : Option Count
   pub added : after.reports.items ≡ before.reports.items ++ reports
@@ -103,10 +103,12 @@ pub record PrintsAmong {R J W : Type 0} (g : Registries R) (h : Journals J) (con
 
 -- all acts were done and their reports printed, and something failed after them
 pub record StopsAfterAmong {R J W : Type 0} (g : Registries R) (h : Journals J) (contents : W → Option (List ℕ))
-    (registry : R) (journal : J) (base : List ℕ) (all : List Act) (before after : ReportLines ActReport W) : Type 0 where
+    (registry : R) (journal : J) (base : List ℕ) (all : List Act)
+    (before after : ReportLines ActReport W) : Type 0 where
   pub between : ReportLines ActReport W
   pub ran : Running R J
-  pub runs : RunsTellingAmong g h printed_reports (PrintsReport act_text contents) registry journal base all before between ran
+  pub runs : RunsTellingAmong g h printed_reports (PrintsReport act_text contents)
+      registry journal base all before between ran
   pub kept : after.reports ≡ between.reports
 
 -- Why a run ended early: as it does if its reports are told, or after all of them
