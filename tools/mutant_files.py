@@ -19,6 +19,8 @@ IN_CODE = re.compile(r"""r(#*)".*?"\1|"(?:\\.|[^"\\])*"|'(?:\\.[^']*|[^\\'\n])'|
 # The last `;` of a record in a clause
 END_OF_RECORD = re.compile(r"(\brecord \{[^{}]*); \}")
 IN_LOGIC = re.compile(r"""(?P<comment>(?<![^\s(){}.;,@"«»])--[^\n]*|{-.*?-})|"(?:\\.|[^"\\\n])*\"""", re.S)
+# Derived traits, which no mutant changes
+DERIVED = re.compile(r"#\[derive\([^)]*\)\] ")
 FUNCTION = re.compile(r"^( *)(?:pub(?:\([a-z]+\))? )?(?:const )?fn (\w+)")
 HOME = re.compile(r"(?:pub(?:\([a-z]+\))? )?(?:unsafe )?(?:impl|trait) (?:(?P<of>[\w:]+) for )?(?P<type>[\w:&]+)")
 
@@ -182,8 +184,9 @@ def sum_of(texts):
 
 
 def code_in(text):
-    """A text of Rattle without its comments and its layout."""
-    return END_OF_RECORD.sub(r"\1 }", IN_CODE.sub(lambda found: " " if found["gap"] else found[0], text))
+    """A text of Rattle without its comments, its layout and its derived traits."""
+    text = IN_CODE.sub(lambda found: " " if found["gap"] else found[0], text)
+    return END_OF_RECORD.sub(r"\1 }", DERIVED.sub("", text))
 
 
 def logic_in(text):
@@ -193,7 +196,7 @@ def logic_in(text):
 
 
 def sum_of_texts(crate):
-    """A sum over the texts of a crate, without comments and layout."""
+    """A sum over the texts of a crate, without comments, layout and derived traits."""
     files = [it for part in PARTS for it in sorted((CRATES / crate / part).rglob("*")) if it.is_file()]
     texts = [(code_in if it.suffix == ".rt" else logic_in)(it.read_text(encoding="utf-8")) for it in files]
     names = [str(it.relative_to(CRATES)) for it in files]

@@ -24,8 +24,8 @@ changes; `rm -r out/mutants` forgets it. Clones can share the work: a run over a
 tries nothing again.
 
 If all of a crate's mutants were rejected, edits/refused.txt gets a sum over the crate's texts, without
-comments and the layout of code, and over its mutants, without `rejected by`. If one wasn't, the crate loses
-its sum.
+comments, the layout of code and derived traits, and over its mutants, without `rejected by`. If one wasn't,
+the crate loses its sum.
 
     tools/mutants.py --sums                 tries nothing; reports the mutants that don't apply, and the
                                             crates whose sum isn't that of what is there

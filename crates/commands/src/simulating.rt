@@ -28,7 +28,7 @@ pub enum Events<'a> {
 }
 
 /// Why the arguments of `simulate` ask for no events.
-#[derive(Clone, Copy, Debug, PartialEq, Eq, Error)]
+#[derive(Clone, Copy, Debug, Error)]
 pub enum EventsFault {
     #[error("simulate takes one of FILE and --seed S")]
     Source,

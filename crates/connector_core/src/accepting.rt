@@ -7,7 +7,7 @@ use source_csv::Row;
 use thiserror::Error;
 
 /// The verdict on a row that isn't refused. Only a `New` row changes the history.
-#[derive(Clone, Copy, Debug, PartialEq, Eq)]
+#[derive(Clone, Copy)]
 pub enum Verdict {
     /// The first row of its record, or a row with a higher revision than the last.
     New,
@@ -18,7 +18,7 @@ pub enum Verdict {
 }
 
 /// Why a row is refused.
-#[derive(Clone, Copy, Debug, PartialEq, Eq, Error)]
+#[derive(Clone, Copy, Debug, Error)]
 pub enum BookFault {
     /// It has the revision of the last row of its record, but another field.
     #[error("S7")]

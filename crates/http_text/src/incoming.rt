@@ -11,7 +11,7 @@ use std::alloc::Global;
 use std::marker::Model;
 
 /// A message that was read. It lends the parts of its one buffer.
-#[derive(Debug, Drop)]
+#[derive(Drop)]
 pub struct Incoming {
     pub(crate) bytes: Vec<u8>,
     pub(crate) head_length: usize,
@@ -33,7 +33,7 @@ impl Model for Incoming {
 }
 
 /// The values of the fields with one name, in the order of their lines.
-#[derive(Debug, Drop)]
+#[derive(Drop)]
 pub struct FieldValues<'a> {
     name: &'a [u8],
     head: &'a [u8],

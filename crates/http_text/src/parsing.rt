@@ -21,7 +21,7 @@ pub(crate) enum MessageKind {
 }
 
 /// The first line of a head, as the parts of its bytes.
-#[derive(Clone, Copy, Debug)]
+#[derive(Clone, Copy)]
 pub(crate) enum Start {
     RequestLine { method: Span, target: Span },
     StatusLine { code: u16 },

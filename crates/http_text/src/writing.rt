@@ -13,7 +13,7 @@ const LINE_ROOM: usize = 4;
 const ENDS_ROOM: usize = 4;
 
 /// A field line; it is written if it has a value.
-#[derive(Clone, Copy, Debug)]
+#[derive(Clone, Copy)]
 pub struct FieldLine<'a> {
     pub name: &'a str,
     pub value: Option<&'a [u8]>,

@@ -26,7 +26,7 @@ use std::alloc::{AllocError, Global};
 use thiserror::Error as Fault;
 
 /// Why a journal couldn't be opened. Its contents are unchanged.
-#[derive(Clone, Copy, Debug, PartialEq, Eq, Fault)]
+#[derive(Clone, Copy, Debug, Fault)]
 pub enum JournalOpenFault {
     /// The database failed, or a transaction is open.
     #[error("J1")]

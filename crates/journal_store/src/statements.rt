@@ -7,7 +7,7 @@ use sqlite::Error;
 use std::alloc::{AllocError, AllocFailed};
 
 /// Why a statement gave no result.
-#[derive(Clone, Copy, Debug, PartialEq, Eq)]
+#[derive(Clone, Copy)]
 pub enum TableFault {
     Store,
     /// A row is invalid.

@@ -28,7 +28,7 @@ use std::marker::Model;
 use thiserror::Error;
 
 /// Why a request got no answer. Nothing was changed.
-#[derive(Clone, Copy, Debug, PartialEq, Eq, Error)]
+#[derive(Clone, Copy, Debug, Error)]
 pub enum ProviderFault {
     #[error("P10")]
     Store,

@@ -30,7 +30,7 @@ use std::alloc::{AllocError, Global};
 use thiserror::Error as Fault;
 
 /// Why a store couldn't be opened. Its contents are unchanged.
-#[derive(Clone, Copy, Debug, PartialEq, Eq, Fault)]
+#[derive(Clone, Copy, Debug, Fault)]
 pub enum RegistryOpenFault {
     /// The database failed, or a transaction is open.
     #[error("Y1")]

@@ -20,7 +20,7 @@ use sqlite_value::value::ValueRef;
 use std::alloc::{AllocError, Global};
 
 /// What a look-up finds.
-#[derive(Debug, Drop)]
+#[derive(Drop)]
 pub enum Found {
     Nothing,
     /// A row without a valid resource, or more than one row.

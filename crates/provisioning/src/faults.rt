@@ -13,7 +13,7 @@ use std::{fmt, io};
 use thiserror::Error;
 
 /// Why nothing was learnt from an exchange. The run goes on. Its text is its code.
-#[derive(Clone, Copy, Debug)]
+#[derive(Clone, Copy)]
 pub enum RecordFault {
     /// No answer came (H10, H11, H12, H14, K1 to K3).
     Unanswered(ExchangeFault),

@@ -22,7 +22,7 @@ pub const TEXT_LIMIT: usize = 2_048;
 const TEXT_ROOM: usize = 256;
 
 /// Why a text isn't a filter.
-#[derive(Clone, Copy, Debug, PartialEq, Eq, Error)]
+#[derive(Clone, Copy, Debug, Error)]
 pub enum FilterFault {
     #[error("P3")]
     Unsupported,

@@ -17,7 +17,7 @@ use thiserror::Error;
 
 /// Why the provider can't serve a message. The path is checked first, then the method, the media type, the
 /// body, and the conditions or the query.
-#[derive(Clone, Copy, Debug, PartialEq, Eq, Error)]
+#[derive(Clone, Copy, Debug, Error)]
 pub enum MeaningFault {
     /// The first refusal that applies.
     #[error("{0}")]

@@ -6,15 +6,12 @@ ghost use Rattle.scim_json.specs.declared.parsing.JsonFault.TheVariants.{NotJson
 
 use serde_json::Value;
 use std::alloc::Global;
-use thiserror::Error;
 
 /// Why bytes can't be read as JSON.
-#[derive(Clone, Copy, PartialEq, Eq, Debug, Drop, Error)]
+#[derive(Clone, Copy, Drop)]
 pub enum JsonFault {
     /// The bytes aren't UTF-8, aren't JSON, or are nested deeper than 127 levels.
-    #[error("the bytes are not JSON")]
     NotJson,
-    #[error("out of memory")]
     Memory,
 }
 

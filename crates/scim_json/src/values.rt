@@ -6,12 +6,10 @@ ghost use Rattle.scim_json.specs.Values as spec;
 
 use crate::attributes::same_name;
 use serde_json::{Map, Value};
-use thiserror::Error;
 
 /// Why an attribute can't have this value.
-#[derive(Clone, Copy, PartialEq, Eq, Debug, Drop, Error)]
+#[derive(Clone, Copy, Drop)]
 pub enum ValueFault {
-    #[error("the value has another type")]
     WrongType,
 }
 

@@ -16,7 +16,7 @@ pub const BASE_LIMIT: usize = AUTHORITY_LIMIT + 10;
 
 /// The base of a service: `http://`, an authority of 1 to `AUTHORITY_LIMIT` bytes of ASCII letters, digits
 /// and `.-:[]`, and `/v2`.
-#[derive(Debug, Drop)]
+#[derive(Drop)]
 pub struct Base {
     text: String,
 }

@@ -11,7 +11,7 @@ use std::marker::Model;
 
 /// A group's `displayName`: 1 to `NAME_LIMIT` bytes from 0x20 to 0x7E except `"` and `\`, without a space
 /// at either end.
-#[derive(Debug, Drop)]
+#[derive(Drop)]
 pub struct GroupName {
     text: String,
 }

@@ -19,7 +19,7 @@ pub const LAST_NUMBER: u32 = 1_000_000;
 pub const NUMBERED_ID_LENGTH: usize = 36;
 
 /// An id: a text of 1 to `ID_LIMIT` bytes. Ids are compared byte for byte.
-#[derive(Debug, Drop)]
+#[derive(Drop)]
 pub struct ResourceId {
     text: String,
 }

@@ -10,7 +10,7 @@ use thiserror::Error;
 pub const NAME_LIMIT: usize = 128;
 
 /// What is wrong with a text as a name, an id or a base.
-#[derive(Clone, Copy, Debug, PartialEq, Eq, Error)]
+#[derive(Clone, Copy, Debug, Error)]
 pub enum NameFault {
     #[error("N1")]
     Empty,

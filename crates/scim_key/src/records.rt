@@ -15,7 +15,7 @@ use std::cmp::Ordering;
 use std::marker::Model;
 
 /// The two types of resource. Users come before groups.
-#[derive(Clone, Copy, Debug, PartialEq, Eq, PartialOrd, Ord)]
+#[derive(Clone, Copy, PartialEq, Eq, PartialOrd, Ord)]
 pub enum Kind {
     User,
     Group,
@@ -107,7 +107,7 @@ impl Ord for Key {
 }
 
 /// The name of a record, ordered by kind, then by key.
-#[derive(Debug, Clone, Drop)]
+#[derive(Clone, Drop)]
 pub struct RecordName {
     pub kind: Kind,
     pub key: Key,

@@ -21,7 +21,7 @@ pub const REVISION_DIGITS: usize = 18;
 
 /// A revision of a record of the source, or none. It has an epoch and a number; a source that counts anew raises
 /// the epoch. Revisions are ordered by epoch, then by number. "None" comes before all others.
-#[derive(Clone, Copy, Debug)]
+#[derive(Clone, Copy)]
 pub struct Revision {
     epoch: u32,
     number: u32,

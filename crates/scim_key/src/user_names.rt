@@ -10,7 +10,7 @@ use std::alloc::{AllocError, Global};
 use std::marker::Model;
 
 /// A `userName`: 1 to `NAME_LIMIT` bytes from 0x21 to 0x7E except `"` and `\`.
-#[derive(Debug, Drop)]
+#[derive(Drop)]
 pub struct UserName {
     text: String,
 }

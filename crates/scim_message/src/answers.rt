@@ -22,7 +22,7 @@ use std::alloc::{AllocError, AllocFailed, Global};
 use thiserror::Error;
 
 /// Why an answer can't be read. `NotJson` comes before `WrongShape`.
-#[derive(Clone, Copy, Debug, PartialEq, Eq, Error)]
+#[derive(Clone, Copy, Debug, Error)]
 pub enum BodyFault {
     /// The body isn't JSON in UTF-8.
     #[error("A1")]

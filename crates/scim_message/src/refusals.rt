@@ -8,7 +8,7 @@ use std::marker::Model;
 use thiserror::Error;
 
 /// Why a request is refused, each reason with its code.
-#[derive(Clone, Copy, Debug, PartialEq, Eq, Error)]
+#[derive(Clone, Copy, Debug, Error)]
 pub enum Refusal {
     #[error("P1")]
     UnreadableBody,

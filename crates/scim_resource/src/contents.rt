@@ -10,7 +10,7 @@ use scim_key::{Kind, RecordName, Revision};
 use std::alloc::{AllocError, Global};
 
 /// What a resource contains, except for its id and `meta`.
-#[derive(Debug, Drop)]
+#[derive(Drop)]
 pub enum Content {
     User(User),
     Group(Group),

@@ -11,7 +11,7 @@ use std::marker::Model;
 pub const EMAIL_LIMIT: usize = 10;
 
 /// An email address.
-#[derive(Debug, Drop)]
+#[derive(Drop)]
 pub struct Email {
     pub value: Text,
     pub type_text: OptionalText,
@@ -31,7 +31,7 @@ impl Clone for Email {
 }
 
 /// At most ten email addresses, at most one of them primary.
-#[derive(Debug, Drop)]
+#[derive(Drop)]
 pub struct Emails {
     items: Vec<Email>,
 }

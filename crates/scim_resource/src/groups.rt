@@ -15,7 +15,7 @@ use std::marker::Model;
 pub const MEMBER_LIMIT: usize = 400;
 
 /// The values of a group's members: at most 400 texts, none of them twice.
-#[derive(Debug, Drop)]
+#[derive(Drop)]
 pub struct Members {
     items: Vec<Text>,
 }
@@ -91,7 +91,6 @@ pub(crate) fn is_among(value: &Text, others: &[Text]) -> bool
 }
 
 /// What a group contains.
-#[derive(Debug)]
 pub struct Group {
     display_name: GroupName,
     external_id: OptionalText,

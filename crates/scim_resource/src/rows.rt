@@ -53,7 +53,6 @@ impl RowVersion {
 
 /// A row of the provider: the resource's number in order of creation, from 1 to `LAST_NUMBER`, its
 /// version, from 1 to `LAST_VERSION`, and its content.
-#[derive(Debug)]
 pub struct Stored {
     number: u32,
     version: u64,
@@ -143,7 +142,7 @@ impl Clone for Stored {
 }
 
 /// A resource as an answer shows it: its id, its entity tag if it is known, and its content.
-#[derive(Debug, Drop)]
+#[derive(Drop)]
 pub struct Shown {
     id: ResourceId,
     version: Option<EntityTag>,

@@ -11,7 +11,7 @@ use std::marker::Model;
 pub const TEXT_LIMIT: usize = 256;
 
 /// A text of 1 to 256 bytes, in UTF-8.
-#[derive(Debug, Drop)]
+#[derive(Drop)]
 pub struct Text {
     text: String,
 }
@@ -67,7 +67,7 @@ impl Clone for Text {
 }
 
 /// A text of 1 to 256 bytes, or none. It takes no more room than a text: none is kept as no bytes.
-#[derive(Debug, Drop)]
+#[derive(Drop)]
 pub struct OptionalText {
     text: String,
 }

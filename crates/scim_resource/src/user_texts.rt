@@ -3,7 +3,7 @@ ghost use Rattle.std.specs.Prelude.{◌≡◌, ◌<◌};
 ghost use Rattle.scim_resource.specs.UserTexts.{holder_of, name_of, place_of};
 
 /// A text of a user.
-#[derive(Clone, Copy, Debug)]
+#[derive(Clone, Copy)]
 pub enum UserText {
     Department,
     ExternalId,
@@ -12,7 +12,7 @@ pub enum UserText {
 }
 
 /// The object in a user's JSON that has a text as a member.
-#[derive(Clone, Copy, Debug)]
+#[derive(Clone, Copy)]
 pub(crate) enum Holder {
     User,
     Name,

@@ -14,7 +14,6 @@ use std::alloc::{AllocError, Global};
 use std::marker::Model;
 
 /// What a user contains.
-#[derive(Debug)]
 pub struct User {
     user_name: UserName,
     texts: [OptionalText; TEXT_COUNT],

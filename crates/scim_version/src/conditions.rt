@@ -10,7 +10,7 @@ use std::alloc::Global;
 use std::marker::Model;
 
 /// A list of entity tags.
-#[derive(Debug, Drop)]
+#[derive(Drop)]
 pub struct TagList {
     tags: Vec<EntityTag>,
 }
@@ -24,7 +24,7 @@ impl Model for TagList {
 }
 
 /// The condition of an `If-Match` or `If-None-Match` field; `Always` if the request has no such field.
-#[derive(Debug, Drop)]
+#[derive(Drop)]
 pub enum Condition {
     Always,
     AnyTag,

@@ -12,7 +12,7 @@ use std::marker::Model;
 use thiserror::Error;
 
 /// Why a text isn't an entity tag, or isn't a list of entity tags.
-#[derive(Clone, Copy, Debug, PartialEq, Eq, Error)]
+#[derive(Clone, Copy, Debug, Error)]
 pub enum TagFault {
     #[error("V1")]
     Malformed,
@@ -38,7 +38,7 @@ impl<T: Drop> From<AllocFailed<T>> for TagFault {
 
 /// An entity tag: an optional `W/`, a double quote, any number of bytes 0x21, 0x23 to 0x7E or
 /// 0x80 to 0xFF, and a double quote. It keeps the bytes that it was read or made from.
-#[derive(Debug, Drop)]
+#[derive(Drop)]
 pub struct EntityTag {
     bytes: Vec<u8>,
 }

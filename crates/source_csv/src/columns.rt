@@ -11,7 +11,7 @@ use std::marker::Model;
 
 /// The columns of a file in the order of its header, and where those of a user are, so that no record of the file
 /// looks for them.
-#[derive(Debug, Drop)]
+#[derive(Drop)]
 pub(crate) struct Columns {
     names: &'static [&'static str],
     login: usize,

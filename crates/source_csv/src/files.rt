@@ -16,7 +16,7 @@ use std::alloc::Global;
 use std::marker::Model;
 
 /// The records of a file, in order: each is a row or is rejected.
-#[derive(Debug, Drop)]
+#[derive(Drop)]
 pub struct SourceRows {
     rows: Vec<Result<Row, RowFault>>,
 }
@@ -49,7 +49,7 @@ impl SourceRows {
 }
 
 /// What a file says: its records, and which of them have a field over several lines, in order.
-#[derive(Debug, Drop)]
+#[derive(Drop)]
 pub struct SourceFile {
     pub rows: SourceRows,
     pub multiline: Vec<Multiline>,
@@ -87,7 +87,7 @@ fn add_next(
     Ok(true)
 }
 
-/// What the records say that are left. More than `u64` counts are out of memory.
+/// What the records say that weren't read yet. More than `u64` counts are out of memory.
 fn rest_of(alloc: Global, file: &mut RowReader<&[u8]>) -> Result<SourceFile, SourceFault>
     ensures rows { (records : List Record) → HasLeft file.old records
         → GivesBy (λ said. said.rows) SourceFault.Memory result (Ok (rows_next file.old records)) }

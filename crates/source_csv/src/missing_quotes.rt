@@ -8,7 +8,7 @@ use csv::ByteRecord;
 use std::fmt;
 
 /// A record with a field over several lines. Its text asks whether a quote is missing.
-#[derive(Clone, Copy, Debug, PartialEq, Eq)]
+#[derive(Clone, Copy)]
 pub struct Multiline {
     /// The place of the record, from 1 after the header.
     pub place: usize,

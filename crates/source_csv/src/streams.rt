@@ -21,15 +21,12 @@ use std::alloc::Global;
 use std::io;
 use std::io::Read;
 use std::marker::Model;
-use thiserror::Error;
 
 /// Why a file wasn't read to its end.
-#[derive(Clone, Copy, Debug, Error)]
+#[derive(Clone, Copy)]
 pub enum ReadFault {
-    #[error("{0}")]
     Source(SourceFault),
     /// A read failed; the error is the system's.
-    #[error("{0}")]
     Input(io::Error),
 }
 
@@ -101,10 +98,7 @@ pub(crate) fn reader_over<R: Read>(alloc: Global, source: R) -> Reader<R>
 }
 
 /// Reads the next record into `raw`, and returns whether there was one.
-pub(crate) fn read_into<R: Read>(
-    reader: &mut Reader<R>,
-    raw: &mut ByteRecord,
-) -> Result<bool, ReadFault>
+fn read_into<R: Read>(reader: &mut Reader<R>, raw: &mut ByteRecord) -> Result<bool, ReadFault>
     requires { has_failed reader.old ≡ false → IsPlain reader.old }
     ensures plain { has_failed reader.new ≡ false → IsPlain reader.new }
     ensures records { (records : List Record)

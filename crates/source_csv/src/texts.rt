@@ -13,7 +13,7 @@ use std::marker::Model;
 pub const VALUE_LIMIT: usize = 256;
 
 /// A text that the source gives for a user. An empty text means none.
-#[derive(Clone, Copy, Debug, PartialEq, Eq)]
+#[derive(Clone, Copy)]
 pub enum TextField {
     Number,
     Given,
@@ -52,7 +52,7 @@ impl TextField {
 }
 
 /// A text of a user. Contracts see its bytes.
-#[derive(Debug, Drop)]
+#[derive(Drop)]
 pub struct FieldValue {
     text: String,
 }

@@ -17,7 +17,6 @@ use std::alloc::{AllocError, Global};
 use std::marker::Model;
 
 /// What the source says about a user at a revision. Each text has at most `VALUE_LIMIT` bytes.
-#[derive(Debug)]
 pub struct UserRow {
     login: UserName,
     revision: Revision,

@@ -10,7 +10,7 @@ use crate::statements::{Layout, ask};
 use sqlite::{Alter, Connection, Error, Row};
 
 /// What the number of the format means for the format that was asked for.
-#[derive(Clone, Copy, Debug, PartialEq, Eq)]
+#[derive(Clone, Copy)]
 pub enum Mark {
     Own,
     Newer,
