@@ -21,8 +21,6 @@ from rattle_text import Source
 TESTS = pathlib.Path(__file__).resolve().parent
 LIST = TESTS / "made_up_faults.txt"
 CRATES = TESTS.parent / "crates"
-# The end of the names of crates of tests, whose faults are expected values, and those of stores that fail on purpose
-SCENARIOS = "scenarios"
 
 # What a `From` of the allocator's errors gives: a variant of a known name, or one that holds such a fault
 KNOWN_MEMORY = re.compile(r"^(?:\w+::\w+\()?\w+::(?:Memory|OutOfMemory)\)?$")
@@ -169,8 +167,7 @@ def crates():
     found = collections.defaultdict(dict)
     for path in sorted(CRATES.glob("*/src/**/*.rt")):
         file = path.relative_to(CRATES)
-        if not file.parts[0].endswith(SCENARIOS):
-            found[file.parts[0]][str(file)] = path.read_text(encoding="utf-8")
+        found[file.parts[0]][str(file)] = path.read_text(encoding="utf-8")
     return found
 
 

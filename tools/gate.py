@@ -1,6 +1,6 @@
 #!/usr/bin/env python3
-"""CI, as `make test` runs it: `rt ci`, which proves everything and runs the tests in Rattle and the program;
-then each module of tests/, of Python's unittest; then schedules over files; then a table of the minutes.
+"""CI, as `make test` runs it: `rt ci`, which proves everything and runs the program; then each module of tests/, of
+Python's unittest; then the tests in Rattle and the schedules over files; then a table of the minutes.
 
 All of it runs, whatever fails before. The status is 1 if anything failed.
 """
@@ -13,11 +13,10 @@ import sys
 import time
 
 ROOT = pathlib.Path(__file__).resolve().parent.parent
-# What a line of `rt ci` says has ended: the proof of a crate or of its tests, or the run of either
+# What a line of `rt ci` says has ended: the proof of a crate, or the run of the program
 ENDED = [
     ("proofs of crates", re.compile(r"rt: (\w+) (?:proved|NOT PROVED|is kept)")),
-    ("proofs of the crates' tests", re.compile(r"rt: (\w+): its tests are (?:proved|NOT PROVED)")),
-    ("runs of tests and programs", re.compile(r"rt: (\w+)(?:: its tests (?:passed|FAILED)| ran\b)")),
+    ("runs of the program", re.compile(r"rt: (\w+) ran\b")),
 ]
 # The table names each crate that took this many processor minutes
 WORTH_NAMING = 1
@@ -80,7 +79,7 @@ def is_proved(table):
         print(line, end="", flush=True)
         part, found = next(((part, it[1]) for part, form in ENDED if (it := form.match(line))), (None, None))
         if part:
-            table.add(part, clock.passed(), None if part == ENDED[2][0] else found)
+            table.add(part, clock.passed(), None if part == ENDED[-1][0] else found)
     status = run.wait()
     given = [sum(it) for it in zip(*table.rows.values())] or last
     table.add("the rest of rt ci", [now - before for now, before in zip(whole.passed(), given)])
@@ -88,10 +87,11 @@ def is_proved(table):
 
 
 def tests():
-    """What to run after `rt ci`: the name and the command of each module of tests, and of the runs over files."""
+    """What to run after `rt ci`: the name and the command of each module of tests, and of what is built without proofs."""
     for it in sorted((ROOT / "tests").glob("test_*.py")):
         yield it.stem, [sys.executable, "-B", "-m", "unittest", "discover", "-s", "tests", "-p", it.name]
-    yield "runs_over_files", [sys.executable, "-B", "tools/runs_over_files.py"]
+    for name in ("scenarios", "runs_over_files"):
+        yield name, [sys.executable, "-B", f"tools/{name}.py"]
 
 
 def main():
