@@ -5,7 +5,9 @@ import socket
 import struct
 import time
 
-from support import BOB_CREATED, CREATE_BOB, PATIENCE, ProgramTest, Provider, read_all, resource_id, wait_until
+from support import (
+    BOB_CREATED, CREATE_BOB, PATIENCE, TIME_LIMIT, ProgramTest, Provider, read_all, resource_id, wait_until,
+)
 
 FIND_BOB = f"GET /v2/Users/{resource_id(1)} HTTP/1.1\r\nHost: h\r\n\r\n".encode()
 # Seconds that the provider reads on after its answer, if nobody else waits
@@ -104,7 +106,7 @@ class ConnectionTest(ProgramTest):
             self.assert_not_found(provider.exchange(FIND_BOB))
             # it ends once the client has stayed for so long
             self.assertEqual(provider.process.wait(PATIENCE), 0)
-            self.assertTrue(DRAIN <= time.monotonic() - began < DRAIN + 5)
+            self.assertTrue(DRAIN <= time.monotonic() - began < TIME_LIMIT)
 
     def test_who_waits_is_served_before_the_drain(self):
         # the quickest of some tries, as a machine may be slow now and then

@@ -6,13 +6,15 @@ import socket
 import time
 
 from support import (
-    BOB, BOB_CREATED, CREATE_BOB, Beside, ProgramTest, Provider, limited_handles, read_all, resource_id, wait_until,
+    BOB, BOB_CREATED, CREATE_BOB, TIME_LIMIT, Beside, ProgramTest, Provider, limited_handles, read_all, resource_id,
+    wait_until,
 )
 
 FIND_BOB = f"GET /v2/Users/{resource_id(1)} HTTP/1.1\r\nHost: h\r\n\r\n".encode()
 LIST = b"GET /v2/Users HTTP/1.1\r\nHost: h\r\n\r\n"
-# Seconds within which an answer comes if nobody holds it up, and that a connection has in all
-PROMPTLY, LIMIT = 5, 30
+# Seconds within which an answer comes if nobody holds it up, even on a slow machine. Whoever is held up waits until the
+# other's time is over
+PROMPTLY = TIME_LIMIT / 2
 # The most connections that wait for their requests, and the seconds that each may wait even then
 MOST_HELD, GRANTED = 4_096, 0.1
 # The most bytes of memory that their requests take for longer
@@ -66,14 +68,16 @@ def is_closed(stream):
         return True
 
 
-class SlowClientTest(ProgramTest):
+class PromptTest(ProgramTest):
     def assert_prompt(self, provider, request, status):
-        """A request is answered at once."""
+        """A request is answered so, and nobody holds it up."""
         began = time.monotonic()
         answer = provider.exchange(request)
         self.assertLess(time.monotonic() - began, PROMPTLY)
         self.assertTrue(answer.startswith(b"HTTP/1.1 " + status), answer[:100])
 
+
+class SlowClientTest(PromptTest):
     def fill(self, provider, count):
         """Creates so many users."""
         for number in range(count):
@@ -162,7 +166,7 @@ class SlowClientTest(ProgramTest):
         began = time.monotonic()
         with Tricklers(provider, count, pace) as tricklers:
             wait_until(lambda: tricklers.returns > 0, "a client that made room")
-            self.assertLess(time.monotonic() - began, LIMIT)
+            self.assertLess(time.monotonic() - began, TIME_LIMIT)
             for _ in range(20):
                 self.assert_prompt(provider, FIND_BOB, b"404")
                 # a request that comes within the time that each connection is granted
@@ -190,7 +194,7 @@ class SlowClientTest(ProgramTest):
             for stream in streams:
                 stream.sendall(part)
             wait_until(lambda: all(map(is_closed, streams[:50])), "the end of the oldest")
-            self.assertLess(time.monotonic() - began, LIMIT)
+            self.assertLess(time.monotonic() - began, TIME_LIMIT)
             self.assertFalse(is_closed(streams[-1]))
             self.assert_prompt(provider, CREATE_BOB, b"201")
             self.assertGreater(self.connection_faults(self.kill(provider)), 0)
@@ -201,7 +205,7 @@ class SlowClientTest(ProgramTest):
         with Provider(silent_clients + 10, **limited_handles(24)) as provider, contextlib.ExitStack() as silent:
             streams = [silent.enter_context(provider.connect()) for _ in range(silent_clients)]
             wait_until(lambda: is_closed(streams[0]), "the oldest made room")
-            self.assertLess(time.monotonic() - began, LIMIT)
+            self.assertLess(time.monotonic() - began, TIME_LIMIT)
             self.assert_prompt(provider, CREATE_BOB, b"201")
             self.assertGreater(self.connection_faults(self.kill(provider)), 0)
 
