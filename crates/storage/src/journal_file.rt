@@ -4,6 +4,7 @@ ghost use Rattle.sqlite.specs.Held.{state};
 ghost use Rattle.sqlite.specs.State.{IsLive};
 ghost use Rattle.storage.specs.JournalOpened.{FindsEntries, IsOpened, IsOpenedAgain, IsOpenedAt, KeepsTables, LeavesEntries, OpensFrom};
 
+use crate::closing::Close;
 use crate::database::{DatabaseFile, Opening, Remains, connected, fault_of, renewed};
 use crate::entry_storage::{EntryStorage, StoredEntries};
 use crate::looking::{LookFault, seen_in};
@@ -11,7 +12,7 @@ use crate::reason::DatabaseReason;
 use journal_core::Journal;
 use journal_store::{JournalOpenFault, SqlJournal, is_older};
 use scim_key::StoreFault;
-use sqlite::{Alter, Connection, Error, File, FileStore};
+use sqlite::{Alter, Connection, File, FileStore};
 use sqlite_disk::{Disk, Files};
 use std::alloc::Global;
 use std::rt::HostRuntime;
@@ -68,20 +69,20 @@ impl<'a> EntryStorage for JournalFile<'a> {
     }
 }
 
-impl<D: Disk + Drop> StoredEntries for SqlJournal<FileStore<D>> {
-    ghost use Rattle.storage.specs.Closed.{ClosesFiles};
+impl<S: Alter + Drop> StoredEntries for SqlJournal<S>
+where
+    Connection<S>: Close,
+{
+    type Left = <Connection<S> as Close>::Left;
 
-    type Left = Result<Files<D>, (Error, FileStore<D>)>;
-
-    ghost is_closed = { λ s left. ClosesFiles D.Disk s.conn left };
+    ghost is_closed = { λ s left. ⟦<Connection<S> as Close>⟧.is_closed s.conn left };
 
     fn reset(&mut self) -> Result<usize, StoreFault> {
         SqlJournal::reset(self)
     }
 
-    /// Copies the log into the main file.
     fn close(self) -> Self::Left {
-        SqlJournal::close(self).close_files()
+        SqlJournal::close(self).close_all()
     }
 }
 

@@ -2,6 +2,7 @@
 //! and shown, or in memory.
 #![tactic(auto)]
 
+mod closing;
 mod database;
 mod entry_storage;
 mod journal_file;
@@ -18,6 +19,7 @@ mod store_file;
 mod store_lines;
 mod store_showing;
 
+pub use closing::Close;
 pub use database::DatabaseFile;
 pub use entry_storage::{EntryStorage, StoredEntries};
 pub use journal_file::JournalFile;

@@ -2,12 +2,13 @@
 ghost use Rattle.std.specs.Prelude.{true, false, IfErr, IfOk, IsTrue};
 ghost use Rattle.storage.specs.StoreOpened.{FindsRows, IsOpenedAt, LeavesRows};
 
+use crate::closing::Close;
 use crate::database::{DatabaseFile, Opening, Remains, connected};
 use crate::reason::DatabaseReason;
 use crate::row_storage::{RowStorage, StoredRows};
 use provider_core::Registry;
 use provider_store::{RegistryOpenFault, SqlRegistry};
-use sqlite::{Error, File, FileStore};
+use sqlite::{Alter, Connection, File, FileStore};
 use sqlite_disk::{Disk, Files};
 use std::rt::HostRuntime;
 
@@ -52,20 +53,20 @@ impl<'a> RowStorage for StoreFile<'a> {
     }
 }
 
-impl<D: Disk + Drop> StoredRows for SqlRegistry<FileStore<D>> {
-    ghost use Rattle.storage.specs.Closed.{ClosesFiles};
+impl<S: Alter + Drop> StoredRows for SqlRegistry<S>
+where
+    Connection<S>: Close,
+{
+    type Left = <Connection<S> as Close>::Left;
 
-    type Left = Result<Files<D>, (Error, FileStore<D>)>;
-
-    ghost is_closed = { λ s left. ClosesFiles D.Disk s.conn left };
+    ghost is_closed = { λ s left. ⟦<Connection<S> as Close>⟧.is_closed s.conn left };
 
     fn has_failed(&self) -> bool {
         SqlRegistry::has_failed(self)
     }
 
-    /// Copies the log into the main file.
     fn close(self) -> Self::Left {
-        SqlRegistry::close(self).close_files()
+        SqlRegistry::close(self).close_all()
     }
 }
 
