@@ -1,6 +1,6 @@
 #!/usr/bin/env python3
 """CI, as `make test` runs it: `rt ci`, which proves everything and runs the program; then each module of tests/, of
-Python's unittest; then the tests in Rattle and the schedules over files; then a table of the minutes.
+Python's unittest; then the tests in Rattle; then a table of the minutes.
 
 All of it runs, whatever fails before. The status is 1 if anything failed.
 """
@@ -87,11 +87,10 @@ def is_proved(table):
 
 
 def tests():
-    """What to run after `rt ci`: the name and the command of each module of tests, and of what is built without proofs."""
+    """What to run after `rt ci`: the name and the command of each module of tests, and of the tests in Rattle."""
     for it in sorted((ROOT / "tests").glob("test_*.py")):
         yield it.stem, [sys.executable, "-B", "-m", "unittest", "discover", "-s", "tests", "-p", it.name]
-    for name in ("scenarios", "runs_over_files"):
-        yield name, [sys.executable, "-B", f"tools/{name}.py"]
+    yield "scenarios", [sys.executable, "-B", "tools/scenarios.py"]
 
 
 def main():
