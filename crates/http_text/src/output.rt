@@ -64,13 +64,6 @@ impl<W: Write> Output<W> {
         self.writer
     }
 
-    /// How many writes and flushes were made.
-    pub fn calls(&self) -> u64
-        ensures { result ≡ self.now.calls }
-    {
-        self.calls
-    }
-
     pub(crate) fn write(&mut self, bytes: &[u8]) -> WriteTurn
         requires { 0 < length bytes.now }
         ensures bytes { Writes self.old.contents self.new.contents bytes.now result }

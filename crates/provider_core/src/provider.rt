@@ -5,7 +5,7 @@ ghost use Rattle.scim_filter.specs.Names.{single_key};
 ghost use Rattle.scim_resource.specs.Contents.{content_name};
 ghost use Rattle.provider_core.specs.Outcomes.{outcome, changed_rows, IsChange, IsOutcome};
 ghost use Rattle.provider_core.specs.Gathering.{Gathers, GoesThrough};
-ghost use Rattle.provider_core.specs.Rows.{resource, row_named};
+ghost use Rattle.provider_core.specs.Rows.{count_if_free, resource, row_named};
 ghost use Rattle.provider_core.specs.Stores.{CountsFault, CountsProviderFault};
 ghost use Rattle.provider_core.specs.Calls.{Reads, Writes, OpensAgain};
 ghost use Rattle.provider_core.specs.declared.provider.ProviderFault.TheVariants as provider_faults;
@@ -172,14 +172,26 @@ impl<R: Registry> Provider<R> {
             ≡ outcome (R.rows self.old) (Request.Create content)) }
         ensures reads { Reads R.Registry CountsProviderFault self.old self.new result }
     {
-        let name = content.name(alloc)?;
-        let Some(count) = self.registry.count_if_free(&name)? else {
-            return Ok(refusal(alloc, Refusal::NameTaken)?);
+        let reason = match self.count_if_new(alloc, &content)? {
+            Some(count) if count < MOST_RESOURCES => return Ok(insertion(alloc, count, content)?),
+            Some(_) => Refusal::LimitReached,
+            None => Refusal::NameTaken,
         };
-        if count >= MOST_RESOURCES {
-            return Ok(refusal(alloc, Refusal::LimitReached)?);
-        }
-        Ok(insertion(alloc, count, content)?)
+        Ok(refusal(alloc, reason)?)
+    }
+
+    /// How many resources there are, if none of them has this content's name.
+    fn count_if_new(
+        &mut self,
+        alloc: Global,
+        content: &Content,
+    ) -> Result<Option<u32>, ProviderFault>
+        ensures ok { R.is_faithful self.new
+            → IfOk result (λ count. count ≡ count_if_free (content_name content.now) (R.rows self.old)) }
+        ensures reads { Reads R.Registry CountsProviderFault self.old self.new result }
+    {
+        let name = content.name(alloc)?;
+        Ok(self.registry.count_if_free(&name)?)
     }
 
     /// The row of this type with this id, if there is one.
