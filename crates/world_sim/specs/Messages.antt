@@ -19,8 +19,8 @@ message_size base message = length (message_text base message)
 
 -- what a message says
 abbrev pub says : Said → Message
-says (said.Asked request) = Asked request
-says (said.Answered request answer) = Answered request answer
+says (said.Asked asked) = Asked asked.request
+says (said.Answered asked answer) = Answered asked.request answer
 
 -- what was sent is this message, in its bytes
 pub record IsMessage (base : List ℕ) (sent : Sent) (message : Message) : Type 0 where

@@ -9,19 +9,36 @@ use scim_client::ScimService;
 use scim_message::{Answer, Request};
 use std::alloc::{AllocError, Global};
 
+/// A request that was sent. It is dropped in a function of its own, so that whoever holds one while something may
+/// fail has one call to prove for it.
+pub(crate) struct SentRequest {
+    pub(crate) request: Request,
+}
+
+impl Drop for SentRequest {
+    fn drop(self) {
+        let SentRequest { request: _ } = self;
+    }
+}
+
 /// What a message says. When a message arrives, only its bytes are read: this value only says which side
 /// they go to, and which request a reply answers.
 #[derive(Drop)]
 pub(crate) enum Said {
-    Asked(Request),
-    Answered(Request, Answer),
+    Asked(SentRequest),
+    Answered(SentRequest, Answer),
 }
 
-/// A message that was sent, with its bytes.
-#[derive(Drop)]
+/// A message that was sent, with its bytes. It is dropped as a `SentRequest` is.
 pub(crate) struct Sent {
     pub(crate) said: Said,
     pub(crate) bytes: Vec<u8>,
+}
+
+impl Drop for Sent {
+    fn drop(self) {
+        let Sent { said: _, bytes: _ } = self;
+    }
 }
 
 /// The message of a request.
@@ -33,9 +50,10 @@ pub(crate) fn asked(
     ensures message { IfOk result (λ sent. IsMessage service.now sent (Asked request)) }
     ensures formed { OnOk result (IsFormed service.now (Asked request)) }
 {
-    let bytes = service.bytes_of(alloc, &request)?;
+    let asked = SentRequest { request };
+    let bytes = service.bytes_of(alloc, &asked.request)?;
     Ok(Sent {
-        said: Said::Asked(request),
+        said: Said::Asked(asked),
         bytes,
     })
 }

@@ -66,7 +66,7 @@ impl<T: Display + Drop, W: Write + Drop> Follow<T> for ReportLines<T, W> {
 
 /// The world and the views of its records, after a run whose lines were printed.
 #[derive(Drop)]
-pub struct Printed<R: Registry, J: Journal> {
+pub struct Printed<R: Registry + Drop, J: Journal + Drop> {
     pub world: World<R, J>,
     pub views: Vec<View>,
 }
@@ -89,24 +89,25 @@ pub fn print_run<R: Reopen + Drop, J: ReopenJournal + Drop, W: Write + Drop>(
         (EndsPrinting R.Registry J.Journal W.contents registry journal base
         (events_of events.now) lines.old lines.new) }
 {
-    let world = run_telling(alloc, registry, journal, base, events, lines)?;
-    print_end(alloc, world, settles, &mut lines.out)
+    let mut world = run_telling(alloc, registry, journal, base, events, lines)?;
+    let views = print_end(alloc, &mut world, settles, &mut lines.out)?;
+    Ok(Printed { world, views })
 }
 
 /// Settles every record of a world if that is asked for, and then prints the records.
 fn print_end<R: Registry + Drop, J: Journal + Drop, W: Write>(
     alloc: Global,
-    mut world: World<R, J>,
+    world: &mut World<R, J>,
     settles: bool,
     out: &mut W,
-) -> Result<Printed<R, J>, TellingFault<io::Error>>
-    ensures { IfOk result (Ends R.Registry J.Journal settles world
-        (W.contents out.old) (W.contents out.new)) }
+) -> Result<Vec<View>, TellingFault<io::Error>>
+    ensures { IfOk result (λ views. Ends R.Registry J.Journal settles world.old
+        (W.contents out.old) (W.contents out.new) (record { world = world.new; views = views })) }
 {
-    print_settling(&mut world, settles, out)?;
-    let views = print_views(alloc, &mut world, out)?;
+    print_settling(world, settles, out)?;
+    let views = print_views(alloc, world, out)?;
     flush(out)?;
-    Ok(Printed { world, views })
+    Ok(views)
 }
 
 /// Settles every record if that is asked for, and prints how many exchanges that took.

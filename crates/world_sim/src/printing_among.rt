@@ -24,7 +24,7 @@ use std::io::Write;
 
 /// The world and the views of its records, after a run among others whose lines were printed.
 #[derive(Drop)]
-pub struct PrintedAmong<R: Registry, J: Journal> {
+pub struct PrintedAmong<R: Registry + Drop, J: Journal + Drop> {
     pub world: World<R, J>,
     /// Of our records.
     pub views: Vec<View>,
@@ -50,30 +50,33 @@ pub fn print_run_among<R: Reopen + Drop, J: ReopenJournal + Drop, W: Write + Dro
         (EndsPrintingAmong R.Registry J.Journal W.contents registry journal base
         acts.now lines.old lines.new) }
 {
-    let world = run_telling_among(alloc, registry, journal, base, acts, lines)?;
-    print_end_among(alloc, world, acts, settles, &mut lines.out)
-}
-
-/// Settles every record of a world if that is asked for, and then prints our records and those of others.
-fn print_end_among<R: Registry + Drop, J: Journal + Drop, W: Write>(
-    alloc: Global,
-    mut world: World<R, J>,
-    acts: &[Act],
-    settles: bool,
-    out: &mut W,
-) -> Result<PrintedAmong<R, J>, TellingFault<io::Error>>
-    ensures { IfOk result (EndsAmong R.Registry J.Journal acts.now settles world
-        (W.contents out.old) (W.contents out.new)) }
-{
-    print_settling(&mut world, settles, out)?;
-    let views = print_views(alloc, &mut world, out)?;
-    let others = print_others(alloc, &mut world, acts, out)?;
-    flush(out)?;
+    let mut world = run_telling_among(alloc, registry, journal, base, acts, lines)?;
+    let (views, others) = print_end_among(alloc, &mut world, acts, settles, &mut lines.out)?;
     Ok(PrintedAmong {
         world,
         views,
         others,
     })
+}
+
+/// Settles every record of a world if that is asked for, and then prints our records and those of others. Returns the
+/// views of both.
+fn print_end_among<R: Registry + Drop, J: Journal + Drop, W: Write>(
+    alloc: Global,
+    world: &mut World<R, J>,
+    acts: &[Act],
+    settles: bool,
+    out: &mut W,
+) -> Result<(Vec<View>, Vec<View>), TellingFault<io::Error>>
+    ensures { IfOk result (λ shown. EndsAmong R.Registry J.Journal acts.now settles world.old
+        (W.contents out.old) (W.contents out.new)
+        (record { world = world.new; views = shown.0; others = shown.1 })) }
+{
+    print_settling(world, settles, out)?;
+    let views = print_views(alloc, world, out)?;
+    let others = print_others(alloc, world, acts, out)?;
+    flush(out)?;
+    Ok((views, others))
 }
 
 /// The names of the records that others wrote by rows and that aren't ours.

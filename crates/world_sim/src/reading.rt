@@ -96,6 +96,6 @@ pub(crate) fn read_cut(alloc: Global, said: &Said, front: &[u8]) -> Result<bool,
 {
     match said {
         Said::Asked(_) => is_read(read_asked(alloc, front)),
-        Said::Answered(request, _) => is_read(read_answered(alloc, request, front)),
+        Said::Answered(asked, _) => is_read(read_answered(alloc, &asked.request, front)),
     }
 }

@@ -27,7 +27,7 @@ pub(crate) struct Seat<J: Journal> {
 
 /// Several connectors over one provider. Each knows its own messages alone, which are numbered from 1 for each.
 #[derive(Drop)]
-pub struct SharedWorld<R: Registry, J: Journal> {
+pub struct SharedWorld<R: Registry + Drop, J: Journal + Drop> {
     /// The provider, with the side of the connector that has the number 1.
     pub(crate) first: World<R, J>,
     /// The sides of the others, in the order of their numbers.
@@ -63,7 +63,7 @@ impl fmt::Display for TurnReport {
 }
 
 /// Puts another side into a world, and takes out the one that was there.
-fn trade<R: Registry, J: Journal>(world: &mut World<R, J>, seat: &mut Seat<J>)
+fn trade<R: Registry + Drop, J: Journal + Drop>(world: &mut World<R, J>, seat: &mut Seat<J>)
     ensures world { world.new ≡ seated world.old seat.old }
     ensures seat { seat.new ≡ seat_of world.old }
 {

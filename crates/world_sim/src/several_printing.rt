@@ -21,7 +21,7 @@ use std::io::Write;
 
 /// What several connectors came to, after a run whose lines were printed.
 #[derive(Drop)]
-pub struct PrintedSeveral<R: Registry, J: Journal> {
+pub struct PrintedSeveral<R: Registry + Drop, J: Journal + Drop> {
     pub world: SharedWorld<R, J>,
     /// The views of the records of each connector.
     pub views: Vec<Vec<View>>,
@@ -153,21 +153,22 @@ pub fn print_several<R: Reopen + Drop, J: ReopenJournal + Drop, W: Write + Drop>
 {
     let mut world = SharedWorld::start(alloc, registry, first, others, base)?;
     turns_telling(&mut world, turns, lines)?;
-    print_end_several(alloc, world, settles, &mut lines.out)
+    let views = print_end_several(alloc, &mut world, settles, &mut lines.out)?;
+    Ok(PrintedSeveral { world, views })
 }
 
 /// Settles the records of each connector if that is asked for, and then prints the records.
 fn print_end_several<R: Registry + Drop, J: Journal + Drop, W: Write>(
     alloc: Global,
-    mut world: SharedWorld<R, J>,
+    world: &mut SharedWorld<R, J>,
     settles: bool,
     out: &mut W,
-) -> Result<PrintedSeveral<R, J>, TellingFault<io::Error>>
-    ensures { IfOk result (EndsSeveral R.Registry J.Journal settles world
-        (W.contents out.old) (W.contents out.new)) }
+) -> Result<Vec<Vec<View>>, TellingFault<io::Error>>
+    ensures { IfOk result (λ views. EndsSeveral R.Registry J.Journal settles world.old
+        (W.contents out.old) (W.contents out.new) (record { world = world.new; views = views })) }
 {
-    print_settling(&mut world, settles, out)?;
-    let views = print_all_views(alloc, &mut world, out)?;
+    print_settling(world, settles, out)?;
+    let views = print_all_views(alloc, world, out)?;
     flush(out)?;
-    Ok(PrintedSeveral { world, views })
+    Ok(views)
 }

@@ -24,7 +24,7 @@ ghost use Rattle.world_sim.specs.declared.reports.Report.TheVariants.{CutShort};
 ghost use Rattle.world_sim.specs.declared.reports.WorldFault.TheVariants.{Memory, Store};
 
 use crate::events::Event;
-use crate::messages::{Said, Sent, asked, sent_at};
+use crate::messages::{Said, Sent, SentRequest, asked, sent_at};
 use crate::reading::{ReadingFault, read_answered, read_asked, read_cut};
 use crate::reports::{Report, WorldFault};
 use crate::sides::{Side, reopened};
@@ -40,8 +40,7 @@ use source_csv::Row;
 use std::alloc::Global;
 
 /// A provider over a registry, a connector over a journal, and all messages that they ever sent.
-#[derive(Drop)]
-pub struct World<R: Registry, J: Journal> {
+pub struct World<R: Registry + Drop, J: Journal + Drop> {
     pub(crate) alloc: Global,
     pub(crate) service: ScimService,
     pub(crate) provider: Provider<R>,
@@ -49,6 +48,20 @@ pub struct World<R: Registry, J: Journal> {
     pub(crate) is_provider_open: bool,
     pub(crate) connector: Side<J>,
     pub(crate) sent: Vec<Sent>,
+}
+
+/// By hand, so that whoever drops a world has one call to prove, and not one for each field.
+impl<R: Registry + Drop, J: Journal + Drop> Drop for World<R, J> {
+    fn drop(self) {
+        let World {
+            alloc: _,
+            service: _,
+            provider: _,
+            is_provider_open: _,
+            connector: _,
+            sent: _,
+        } = self;
+    }
 }
 
 /// The report of a request that was sent, with the number of its message.
@@ -77,8 +90,7 @@ fn unlearnt(fault: LearnFault) -> Result<Report, WorldFault>
     }
 }
 
-/// The report of a row that isn't accepted. A fault of the journal's store is the world's, and so is out of
-/// memory.
+/// The report of a row that isn't accepted. A fault of the journal's store is the world's, and so is out of memory.
 fn unaccepted(fault: ChangeFault) -> Result<Report, WorldFault>
     ensures { result ≡ unaccepted fault }
 {
@@ -353,15 +365,16 @@ impl<R: Registry + Drop, J: Journal + Drop> World<R, J> {
                 Err(ReadingFault::Unread) => Ok(Report::NoMessage),
                 Err(ReadingFault::Memory) => Err(WorldFault::Memory),
             },
-            Said::Answered(request, _) => match &mut self.connector {
-                Side::Open(connector) => hear(self.alloc, connector, request, &message.bytes),
+            Said::Answered(asked, _) => match &mut self.connector {
+                Side::Open(connector) => {
+                    hear(self.alloc, connector, &asked.request, &message.bytes)
+                }
                 Side::Shut(_) => Err(WorldFault::Store),
             },
         }
     }
 
-    /// A request arrives, and its reply is sent. Everything that needs memory is done before the rows
-    /// change.
+    /// A request arrives, and its reply is sent. Everything that needs memory is done before the rows change.
     fn answer(&mut self, request: Request) -> Result<Report, WorldFault>
         ensures done { IfOk result
             (Arrives R.Registry (unknown_entries J.Journal) self.old self.new (Asked request)) }
@@ -371,16 +384,13 @@ impl<R: Registry + Drop, J: Journal + Drop> World<R, J> {
         ensures apart { self.new.connector ≡ self.old.connector }
         ensures opens { opens_of self.new ≡ opens_of self.old }
     {
+        let asked = SentRequest { request };
         self.sent.reserve(1)?;
-        let (pending, bytes) = prepared(
-            self.alloc,
-            &mut self.provider,
-            self.service.base(),
-            &request,
-        )?;
+        let base = self.service.base();
+        let (pending, bytes) = prepared(self.alloc, &mut self.provider, base, &asked.request)?;
         let status = pending.answer().status();
         let answer = self.provider.commit(pending)?;
-        let said = Said::Answered(request, answer);
+        let said = Said::Answered(asked, answer);
         self.sent.push(Sent { said, bytes })?;
         let number = self.sent.len();
         Ok(Report::Answering { number, status })

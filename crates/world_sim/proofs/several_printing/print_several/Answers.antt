@@ -1,5 +1,5 @@
 use Rattle.std.proofs.Common.{arith, ◌≡◌, ◌+◌, ◌∷◌, inl, inr, length, refl, subst}
-use Rattle.std.proofs.lemmas.Result.{IfOk-weaker, err_from_is_err_and}
+use Rattle.std.proofs.lemmas.Result.{err_from_is_err_and}
 use Rattle.std.specs.List.{AllByRecursion}
 use Rattle.world_sim.specs.Several.{IsBelow, seats_of}
 use Rattle.world_sim.proofs.SharedRuns.{all_printed_several, stops_after_turns}
@@ -12,16 +12,14 @@ turns_telling-requires g c =
 
 pub returns-clause-prints : goal.returns-clause-prints
 returns-clause-prints g c =
-    IfOk-weaker c.print_end_several.result _ _
-    (λ printed ends. all_printed_several g.R.Registry g.J.Journal g.W.Write.contents c.in_ok-world.world c.turns_telling.new.world c.args.registry (c.args.first ∷ c.args.others.items) c.args.base c.args.turns.now c.args.settles
-    c.args.lines.now c.turns_telling.new.follower (record { out = c.print_end_several.new.out; reports = c.turns_telling.new.follower.reports }) printed
-    c.in_ok-world.ensures.starts c.in_ok-turns_telling.ensures.runs ends refl)
-    c.print_end_several.ensures
+    all_printed_several g.R.Registry g.J.Journal g.W.Write.contents c.in_ok-world.world c.turns_telling.new.world c.args.registry (c.args.first ∷ c.args.others.items) c.args.base c.args.turns.now c.args.settles
+    c.args.lines.now c.turns_telling.new.follower (record { out = c.print_end_several.new.out; reports = c.turns_telling.new.follower.reports }) (record { world = c.print_end_several.new.world; views = c.in_ok-views.views })
+    c.in_ok-world.ensures.starts c.in_ok-turns_telling.ensures.runs c.in_ok-views.ensures refl
 
-pub returns-clause-fault : goal.returns-clause-fault
-returns-clause-fault g c =
+pub returns-in_err-views-clause-fault : goal.returns-in_err-views-clause-fault
+returns-in_err-views-clause-fault g c =
     stops_after_turns g.R.Registry g.J.Journal g.W.Write.contents c.in_ok-world.world c.turns_telling.new.world c.args.registry (c.args.first ∷ c.args.others.items) c.args.base c.args.turns.now
-    c.args.lines.now c.turns_telling.new.follower (record { out = c.print_end_several.new.out; reports = c.turns_telling.new.follower.reports }) c.print_end_several.result
+    c.args.lines.now c.turns_telling.new.follower (record { out = c.print_end_several.new.out; reports = c.turns_telling.new.follower.reports }) c.from_residual-in_err-views.result
     c.in_ok-world.ensures.starts c.in_ok-turns_telling.ensures.runs refl
 
 pub returns-in_err-world-clause-fault : goal.returns-in_err-world-clause-fault

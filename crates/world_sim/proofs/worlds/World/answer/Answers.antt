@@ -18,8 +18,8 @@ pub returns-clause-done : goal.returns-clause-done
 returns-clause-done g c =
     let reads = c.in_ok-pending.ensures.reads in
     let writes = c.in_ok-answer.ensures.writes in
-    let message : Sent = record { said = said.Answered c.args.request c.in_ok-answer.answer; bytes = c.in_ok-pending.bytes } in
-    let base : c.base.result.now ≡ c.args.self.now.service = search rules in
+    let message : Sent = record { said = said.Answered (record { request = c.args.request }) c.in_ok-answer.answer; bytes = c.in_ok-pending.bytes } in
+    let base : c.base-base.result.now ≡ c.args.self.now.service = search rules in
     let answer : c.in_ok-answer.answer ≡ c.in_ok-pending.pending.answer = search rules in
     let text : c.in_ok-pending.bytes.items ≡ message_text c.args.self.now.service (Answered c.args.request c.in_ok-pending.pending.answer) = search rules in
     let sent : c.push.new.self.items ≡ c.args.self.now.sent.items ++ message ∷ [] = search rules in
