@@ -15,7 +15,7 @@ use options::{events_help, program};
 use std::net::Net;
 use std::process::ExitCode;
 use std::rt::{HostRuntime, Runtime};
-use storage::{DatabaseFile, EntryStorage, JournalFile, RowStorage, StoreFile};
+use storage::{DatabaseFile, DatabaseHost, EntryStorage, JournalFile, RowStorage, StoreFile};
 
 fn main(rt: HostRuntime) -> ExitCode {
     ExitCode::from(run(&rt).code())
@@ -40,9 +40,12 @@ fn done(rt: &HostRuntime) -> Result<Status, CommandFault> {
     }
 }
 
-/// Carries out the command that was given. This is the only place that names the files of the host:
+/// Carries out the command that was given. This is the only place that names the files of a host:
 /// everything below takes any storage.
-fn over_files(rt: &HostRuntime, matches: &ArgMatches<'_>) -> Result<Status, CommandFault> {
+fn over_files<H: DatabaseHost + Net>(
+    rt: &H,
+    matches: &ArgMatches<'_>,
+) -> Result<Status, CommandFault> {
     let (command, words) = matches.subcommand().ok_or(CommandFault::Subcommand)?;
     let store = store(words).map(|path| StoreFile {
         file: DatabaseFile::new(rt, path),

@@ -1,22 +1,24 @@
 //! A database file of the host.
 ghost use Rattle.std.specs.Prelude.{◌≡◌, true, false, IfErr, IfOk, IsTrue};
-ghost use Rattle.sqlite_std_file.specs.File.{IsFresh};
 ghost use Rattle.sqlite.specs.Closing.{IsCopied};
 ghost use Rattle.sqlite.specs.Files.{Finds, IsCleanLeft, IsOpened as IsConnected, LeavesFiles, file_state};
 ghost use Rattle.sqlite.specs.State.{HasCleanDisk};
 ghost use Rattle.sqlite_wal.specs.Reads.{AreClean};
 ghost use Rattle.storage.specs.Closed.{IsRenewed};
 
+use crate::host::DatabaseHost;
 use crate::reason::{DatabaseReason, code_of, failure_at, failure_of, failure_since};
-use sqlite::{Connection, Error, ErrorCode, File, FileStore, Files, Leftover, Options, Unknown};
+use sqlite::{Connection, Error, ErrorCode, FileStore, Files, Leftover, Options};
 use sqlite_disk::Disk;
+use std::alloc::AllocGlobal;
 use std::cell::Cell;
 use std::fs;
 use std::fs::OpenOptions;
 use std::hash::{BuildHasher, RandomState};
 use std::io::ErrorKind;
 use std::os::unix::fs::OpenOptionsExt;
-use std::rt::HostRuntime;
+use std::random::RandomSource;
+use std::rt::Runtime;
 
 /// How many pages of a file a connection keeps in memory: 2 MB of pages of 4,096 bytes.
 const CACHE_PAGES: usize = 512;
@@ -33,15 +35,15 @@ pub(crate) enum Opening {
 
 /// A database file of SQLite. Its log is `path` with `-wal` at its end.
 #[derive(Drop)]
-pub struct DatabaseFile<'a> {
-    pub(crate) rt: &'a HostRuntime,
+pub struct DatabaseFile<'a, H> {
+    pub(crate) rt: &'a H,
     pub(crate) path: &'a str,
     last: Cell<Opening>,
 }
 
-impl<'a> DatabaseFile<'a> {
+impl<'a, H: DatabaseHost> DatabaseFile<'a, H> {
     /// The file at this path, which isn't opened yet.
-    pub fn new(rt: &'a HostRuntime, path: &'a str) -> DatabaseFile<'a> {
+    pub fn new(rt: &'a H, path: &'a str) -> DatabaseFile<'a, H> {
         DatabaseFile {
             rt,
             path,
@@ -51,10 +53,10 @@ impl<'a> DatabaseFile<'a> {
 
     /// Opens the file with its log, and makes them if they aren't there. That these are the files at the path, and
     /// that no other call touches them, is no clause: this call is trusted for it.
-    pub(crate) fn open(&self) -> Result<Files<File>, Error>
-        ensures log { IfOk result (λ files. IsTrue (⟦<File as Disk>⟧.is_usable files.log)) }
-        ensures db { IfOk result (λ files. IsTrue (⟦<File as Disk>⟧.is_usable files.db)) }
-        ensures fresh { IfOk result (λ files. IsFresh true files.log × IsFresh false files.db) }
+    pub(crate) fn open(&self) -> Result<Files<H::Disk>, Error>
+        ensures log { IfOk result (λ files. IsTrue (H.Disk.Disk.is_usable files.log)) }
+        ensures db { IfOk result (λ files. IsTrue (H.Disk.Disk.is_usable files.db)) }
+        ensures given { IfOk result H.DatabaseHost.gives }
     {
         self.keep(Opening::Refused(None));
         match self.files() {
@@ -109,7 +111,7 @@ impl<'a> DatabaseFile<'a> {
 
     /// Opens the file once more, after a call failed and the file was closed; or says why that fails, if the
     /// system or the library says it.
-    fn open_again(&self) -> Result<Connection<FileStore<File>>, Option<DatabaseReason>> {
+    fn open_again(&self) -> Result<Connection<FileStore<H::Disk>>, Option<DatabaseReason>> {
         if let Some(reason) = self.refused_by_system() {
             return Err(Some(reason));
         }
@@ -124,16 +126,16 @@ impl<'a> DatabaseFile<'a> {
     }
 
     /// The file and its log. The names that SQLite has for a database without a file, and for a URI, are refused.
-    fn files(&self) -> Result<Files<File>, DatabaseReason>
-        ensures log { IfOk result (λ files. IsTrue (⟦<File as Disk>⟧.is_usable files.log)) }
-        ensures db { IfOk result (λ files. IsTrue (⟦<File as Disk>⟧.is_usable files.db)) }
-        ensures fresh { IfOk result (λ files. IsFresh true files.log × IsFresh false files.db) }
+    fn files(&self) -> Result<Files<H::Disk>, DatabaseReason>
+        ensures log { IfOk result (λ files. IsTrue (H.Disk.Disk.is_usable files.log)) }
+        ensures db { IfOk result (λ files. IsTrue (H.Disk.Disk.is_usable files.db)) }
+        ensures given { IfOk result H.DatabaseHost.gives }
     {
         if self.path == ":memory:" || self.path.starts_with("file:") {
             return Err(DatabaseReason::Failed(ErrorCode::CannotOpen));
         }
         make_private(self.rt, self.path);
-        match sqlite_std_file::open(self.rt, self.path, Unknown) {
+        match self.rt.open_database(self.path) {
             Ok(files) => Ok(files),
             Err(error) => Err(DatabaseReason::Unopened(error)),
         }
@@ -159,7 +161,7 @@ impl<'a> DatabaseFile<'a> {
 const PRIVATE: u32 = 0o600;
 
 /// Makes the file if there is none. If it can't be made, the opening after this says why.
-fn make_private(rt: &HostRuntime, path: &str) {
+fn make_private(rt: &impl Runtime, path: &str) {
     let _ = OpenOptions::new()
         .write(true)
         .create_new(true)
@@ -189,7 +191,7 @@ pub(crate) fn fault_of<F, L: Drop>(refused: (F, L)) -> F
 /// Closes a connection, and connects to its files anew, which stay locked meanwhile. A connection keeps the memory
 /// that its largest transaction took; the new one has none of it. If this fails, the files are closed.
 pub(crate) fn renewed<D: Disk + Drop>(
-    rt: &HostRuntime,
+    rt: &(impl RandomSource + AllocGlobal),
     conn: Connection<FileStore<D>>,
 ) -> Result<Connection<FileStore<D>>, Error>
     ensures { IfOk result (λ again. HasCleanDisk (file_state again) → IsRenewed conn again) }
@@ -219,7 +221,7 @@ pub(crate) fn closed<D: Disk + Drop>(conn: Connection<FileStore<D>>) -> Result<F
 /// Connects to files. The connection keeps as much of them in memory as SQLite does. If the files are refused, what is
 /// left of them is handed back.
 pub(crate) fn connected<D: Disk + Drop>(
-    rt: &HostRuntime,
+    rt: &(impl RandomSource + AllocGlobal),
     files: Files<D>,
 ) -> Result<Connection<FileStore<D>>, (Error, Leftover<D>)>
     requires log { IsTrue (D.Disk.is_usable files.log) }

@@ -1,5 +1,5 @@
 //! A file that keeps the entries.
-ghost use Rattle.std.specs.Prelude.{◌≡◌, true, false, IfErr, IfOk, IsTrue};
+ghost use Rattle.std.specs.Prelude.{◌≡◌, IfErr, IfOk, IsTrue};
 ghost use Rattle.sqlite.specs.Held.{state};
 ghost use Rattle.sqlite.specs.State.{IsLive};
 ghost use Rattle.storage.specs.JournalOpened.{FindsEntries, IsOpened, IsOpenedAgain, IsOpenedAt, KeepsTables, LeavesEntries, OpensFrom};
@@ -7,33 +7,31 @@ ghost use Rattle.storage.specs.JournalOpened.{FindsEntries, IsOpened, IsOpenedAg
 use crate::closing::Close;
 use crate::database::{DatabaseFile, Opening, Remains, connected, fault_of, renewed};
 use crate::entry_storage::{EntryStorage, StoredEntries};
+use crate::host::DatabaseHost;
 use crate::looking::{LookFault, seen_in};
 use crate::reason::DatabaseReason;
 use journal_core::Journal;
 use journal_store::{JournalOpenFault, SqlJournal, is_older};
 use scim_key::StoreFault;
-use sqlite::{Alter, Connection, File, FileStore};
+use sqlite::{Alter, Connection, FileStore};
 use sqlite_disk::{Disk, Files};
-use std::alloc::Global;
-use std::rt::HostRuntime;
+use std::alloc::{AllocGlobal, Global};
+use std::random::RandomSource;
 
 /// A statement that leaves the tables as they are.
 const SAME: &str = "UPDATE journal_format SET number = number";
 
 /// A file that keeps the journal of a connector. Opening makes the file if there is none.
 #[derive(Drop)]
-pub struct JournalFile<'a> {
-    pub file: DatabaseFile<'a>,
+pub struct JournalFile<'a, H> {
+    pub file: DatabaseFile<'a, H>,
 }
 
-impl<'a> EntryStorage for JournalFile<'a> {
-    ghost use Rattle.sqlite_std_file.specs.File.{IsFresh};
+impl<'a, H: DatabaseHost> EntryStorage for JournalFile<'a, H> {
+    type Entries = SqlJournal<FileStore<H::Disk>>;
 
-    type Entries = SqlJournal<FileStore<File>>;
-
-    /// Files that the host gave, and that no call was made on, have these entries.
-    ghost finds = { λ _ entries. (files : _) × IsFresh true files.log × IsFresh false files.db
-        × FindsEntries ⟦<File as Disk>⟧ files entries };
+    /// Files that the host gives have these entries.
+    ghost finds = { λ _ entries. (files : _) × H.DatabaseHost.gives files × FindsEntries H.Disk.Disk files entries };
 
     /// If the file is refused, it is closed unchanged.
     fn open(&self) -> Result<Self::Entries, JournalOpenFault> {
@@ -89,7 +87,7 @@ where
 /// The journal of files, and whether an older format was carried over. If they are refused, what is left of them is
 /// handed back: they have what they held.
 fn entries_in<D: Disk + Drop>(
-    rt: &HostRuntime,
+    rt: &(impl RandomSource + AllocGlobal),
     files: Files<D>,
 ) -> Result<(SqlJournal<FileStore<D>>, bool), (JournalOpenFault, Remains<D>)>
     requires log { IsTrue (D.Disk.is_usable files.log) }
@@ -126,8 +124,8 @@ fn journal_of<S: Alter>(
 
 /// The journal; if it was carried over, its files are connected to anew. If that fails, nothing is written to find out
 /// why.
-fn reopened_if<D: Disk + Drop>(
-    file: &DatabaseFile<'_>,
+fn reopened_if<H: DatabaseHost, D: Disk + Drop>(
+    file: &DatabaseFile<'_, H>,
     is_carried: bool,
     entries: SqlJournal<FileStore<D>>,
 ) -> Result<SqlJournal<FileStore<D>>, JournalOpenFault>

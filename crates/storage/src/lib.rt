@@ -5,6 +5,7 @@
 mod closing;
 mod database;
 mod entry_storage;
+mod host;
 mod journal_file;
 mod journal_lines;
 mod journal_showing;
@@ -22,6 +23,7 @@ mod store_showing;
 pub use closing::Close;
 pub use database::DatabaseFile;
 pub use entry_storage::{EntryStorage, StoredEntries};
+pub use host::DatabaseHost;
 pub use journal_file::JournalFile;
 pub use journal_lines::{entry_line, reset_line};
 pub use journal_showing::{show_entries, write_entries};

@@ -11,8 +11,8 @@ use journal_store::{JournalOpenFault, SqlJournal, is_older};
 use sql_tables::is_blank;
 use sqlite::{Alter, Connection, Error, FileStore};
 use sqlite_disk::{Disk, Files};
-use std::alloc::Global;
-use std::rt::HostRuntime;
+use std::alloc::{AllocGlobal, Global};
+use std::random::RandomSource;
 
 /// Why a journal couldn't be looked at. Its contents are unchanged.
 #[derive(Clone, Copy)]
@@ -42,7 +42,7 @@ impl From<Error> for LookFault {
 /// The journal of files, if they have tables. If they are refused, what is left of them is handed back: they have
 /// what they held.
 pub(crate) fn seen_in<D: Disk + Drop>(
-    rt: &HostRuntime,
+    rt: &(impl RandomSource + AllocGlobal),
     files: Files<D>,
 ) -> Result<Option<SqlJournal<FileStore<D>>>, (LookFault, Remains<D>)>
     requires log { IsTrue (D.Disk.is_usable files.log) }

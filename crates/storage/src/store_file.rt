@@ -1,37 +1,36 @@
 //! A file that keeps the rows.
-ghost use Rattle.std.specs.Prelude.{true, false, IfErr, IfOk, IsTrue};
+ghost use Rattle.std.specs.Prelude.{IfErr, IfOk, IsTrue};
 ghost use Rattle.storage.specs.StoreOpened.{FindsRows, IsOpenedAt, LeavesRows};
 
 use crate::closing::Close;
 use crate::database::{DatabaseFile, Opening, Remains, connected};
+use crate::host::DatabaseHost;
 use crate::reason::DatabaseReason;
 use crate::row_storage::{RowStorage, StoredRows};
 use provider_core::Registry;
 use provider_store::{RegistryOpenFault, SqlRegistry};
-use sqlite::{Alter, Connection, File, FileStore};
+use sqlite::{Alter, Connection, FileStore};
 use sqlite_disk::{Disk, Files};
-use std::rt::HostRuntime;
+use std::alloc::AllocGlobal;
+use std::random::RandomSource;
 
 /// A statement that leaves the tables as they are.
 const SAME: &str = "UPDATE provider_format SET number = number";
 
 /// A file that keeps the rows of a provider. Opening makes the file if there is none.
 #[derive(Drop)]
-pub struct StoreFile<'a> {
-    pub file: DatabaseFile<'a>,
+pub struct StoreFile<'a, H> {
+    pub file: DatabaseFile<'a, H>,
 }
 
-impl<'a> RowStorage for StoreFile<'a> {
-    ghost use Rattle.sqlite_std_file.specs.File.{IsFresh};
-
-    type Rows = SqlRegistry<FileStore<File>>;
+impl<'a, H: DatabaseHost> RowStorage for StoreFile<'a, H> {
+    type Rows = SqlRegistry<FileStore<H::Disk>>;
 
     /// It isn't known what an existing file contains.
     ghost refuses = { λ _ _. Unit {0} };
 
-    /// Files that the host gave, and that no call was made on, have these rows.
-    ghost finds = { λ _ rows. (files : _) × IsFresh true files.log × IsFresh false files.db
-        × FindsRows ⟦<File as Disk>⟧ files rows };
+    /// Files that the host gives have these rows.
+    ghost finds = { λ _ rows. (files : _) × H.DatabaseHost.gives files × FindsRows H.Disk.Disk files rows };
 
     /// If the file is refused, it is closed unchanged.
     fn open(&self) -> Result<Self::Rows, RegistryOpenFault> {
@@ -72,7 +71,7 @@ where
 
 /// The registry of files. If they are refused, what is left of them is handed back: they have what they held.
 fn rows_in<D: Disk + Drop>(
-    rt: &HostRuntime,
+    rt: &(impl RandomSource + AllocGlobal),
     files: Files<D>,
 ) -> Result<SqlRegistry<FileStore<D>>, (RegistryOpenFault, Remains<D>)>
     requires log { IsTrue (D.Disk.is_usable files.log) }

@@ -1,7 +1,6 @@
 use Rattle.storage.proofs.store_file.StoreFileRowStorage.open.Goals as goal
 
 pub returns-in-Ok-clause-opened : goal.returns-in-Ok-clause-opened
-returns-in-Ok-clause-opened c =
+returns-in-Ok-clause-opened g c =
     let it = c.in-Ok.ensures.opened in
-    let fresh = c.in_ok-open.ensures.fresh in
-    record { opened = it.opened; found = λ honest. (c.in_ok-open.field-0, fresh.0, fresh.1, it.found honest) }
+    record { opened = it.opened; found = λ honest. (c.in_ok-open.field-0, c.in_ok-open.ensures.given, it.found honest) }
