@@ -2,3 +2,4 @@ mod StoreShowingLemmas
 mod JournalShowingLemmas
 mod RenewalLemmas
 mod LookingLemmas
+mod JournalFileLemmas

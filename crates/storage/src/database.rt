@@ -4,7 +4,6 @@ ghost use Rattle.sqlite.specs.Closing.{IsCopied};
 ghost use Rattle.sqlite.specs.Files.{Finds, IsCleanLeft, IsOpened as IsConnected, LeavesFiles, file_state};
 ghost use Rattle.sqlite.specs.State.{HasCleanDisk};
 ghost use Rattle.sqlite_wal.specs.Reads.{AreClean};
-ghost use Rattle.storage.specs.Closed.{IsRenewed};
 
 use crate::host::DatabaseHost;
 use crate::reason::{DatabaseReason, code_of, failure_at, failure_of, failure_since};
@@ -186,23 +185,6 @@ pub(crate) fn fault_of<F, L: Drop>(refused: (F, L)) -> F
 {
     let (fault, _left) = refused;
     fault
-}
-
-/// Closes a connection, and connects to its files anew, which stay locked meanwhile. A connection keeps the memory
-/// that its largest transaction took; the new one has none of it. If this fails, the files are closed.
-pub(crate) fn renewed<D: Disk + Drop>(
-    rt: &(impl RandomSource + AllocGlobal),
-    conn: Connection<FileStore<D>>,
-) -> Result<Connection<FileStore<D>>, Error>
-    ensures { IfOk result (λ again. HasCleanDisk (file_state again) → IsRenewed conn again) }
-{
-    match closed(conn) {
-        Ok(files) => match connected(rt, files) {
-            Ok(again) => Ok(again),
-            Err(refused) => Err(fault_of(refused)),
-        },
-        Err(error) => Err(error),
-    }
 }
 
 /// Closes a connection. If this fails, its files are closed.

@@ -1,11 +1,12 @@
 //! A file that keeps the entries.
 ghost use Rattle.std.specs.Prelude.{◌≡◌, IfErr, IfOk, IsTrue};
+ghost use Rattle.sqlite.specs.Files.{file_state};
 ghost use Rattle.sqlite.specs.Held.{state};
 ghost use Rattle.sqlite.specs.State.{IsLive};
-ghost use Rattle.storage.specs.JournalOpened.{FindsEntries, IsOpened, IsOpenedAgain, IsOpenedAt, KeepsTables, LeavesEntries, OpensFrom};
+ghost use Rattle.storage.specs.JournalOpened.{FindsEntries, IsCarried, IsOpenedAgain, KeepsTables, LeavesEntries, Opens, OpensFiles};
 
 use crate::closing::Close;
-use crate::database::{DatabaseFile, Opening, Remains, connected, fault_of, renewed};
+use crate::database::{DatabaseFile, Opening, Remains, closed, connected};
 use crate::entry_storage::{EntryStorage, StoredEntries};
 use crate::host::DatabaseHost;
 use crate::looking::{LookFault, seen_in};
@@ -35,11 +36,12 @@ impl<'a, H: DatabaseHost> EntryStorage for JournalFile<'a, H> {
 
     /// If the file is refused, it is closed unchanged.
     fn open(&self) -> Result<Self::Entries, JournalOpenFault> {
-        match entries_in(self.file.rt, self.file.open()?) {
-            Ok((entries, is_carried)) => {
+        match opened_in(self.file.rt, self.file.open()?) {
+            Ok(Opened::Entries(entries)) => {
                 self.file.keep(Opening::Done);
-                reopened_if(&self.file, is_carried, entries)
+                Ok(entries)
             }
+            Ok(Opened::Carried(conn)) => opened_again(&self.file, conn),
             Err(refused) => Err(self.file.refused(refused)),
         }
     }
@@ -84,59 +86,49 @@ where
     }
 }
 
-/// The journal of files, and whether an older format was carried over. If they are refused, what is left of them is
-/// handed back: they have what they held.
-fn entries_in<D: Disk + Drop>(
+/// What an opening of tables leaves if it doesn't refuse them.
+enum Opened<S: Alter> {
+    Entries(SqlJournal<S>),
+    /// An older format was carried over. The connection keeps the memory that this transaction took.
+    Carried(Connection<S>),
+}
+
+/// The journal of files, or a connection to them if an older format was carried over. If they are refused, what is
+/// left of them is handed back: they have what they held.
+fn opened_in<D: Disk + Drop>(
     rt: &(impl RandomSource + AllocGlobal),
     files: Files<D>,
-) -> Result<(SqlJournal<FileStore<D>>, bool), (JournalOpenFault, Remains<D>)>
+) -> Result<Opened<FileStore<D>>, (JournalOpenFault, Remains<D>)>
     requires log { IsTrue (D.Disk.is_usable files.log) }
     requires db { IsTrue (D.Disk.is_usable files.db) }
-    ensures opened { IfOk result (λ it.
-        IsOpenedAt ⟦<SqlJournal<FileStore<D>> as Journal>⟧ (FindsEntries D.Disk files) it.0) }
+    ensures opened { IfOk result (OpensFiles files) }
     ensures refused { IfErr result (λ e. LeavesEntries files e.1) }
 {
     let conn = match connected(rt, files) {
         Ok(conn) => conn,
         Err(refused) => return Err((JournalOpenFault::from(refused.0), Err(refused))),
     };
-    match journal_of(rt.alloc(), conn) {
+    match opened_from(rt.alloc(), conn) {
         Ok(opened) => Ok(opened),
         Err((fault, conn)) => Err((fault, Ok(conn))),
     }
 }
 
-/// The journal of a connection, and whether an older format was carried over. If it is refused, the connection is
-/// handed back.
-fn journal_of<S: Alter>(
+/// The journal of a connection, or that connection if an older format was carried over. If its tables are refused, it
+/// is handed back.
+fn opened_from<S: Alter>(
     alloc: Global,
     conn: Connection<S>,
-) -> Result<(SqlJournal<S>, bool), (JournalOpenFault, Connection<S>)>
-    ensures opened { IfOk result (λ it. OpensFrom S.Store (state S.Store conn) it.0) }
+) -> Result<Opened<S>, (JournalOpenFault, Connection<S>)>
+    ensures opened { IfOk result (Opens S.Store (state S.Store conn)) }
     ensures refused { IfErr result (λ e. KeepsTables (state S.Store conn) (state S.Store e.1)) }
 {
-    let is_carried = is_older(&conn);
+    let is_older = is_older(&conn);
     match SqlJournal::open(alloc, conn) {
-        Ok(entries) => Ok((entries, is_carried)),
+        Ok(entries) if is_older => Ok(Opened::Carried(connection_of(entries))),
+        Ok(entries) => Ok(Opened::Entries(entries)),
         Err(refused) => Err(refused),
     }
-}
-
-/// The journal; if it was carried over, its files are connected to anew. If that fails, nothing is written to find out
-/// why.
-fn reopened_if<H: DatabaseHost, D: Disk + Drop>(
-    file: &DatabaseFile<'_, H>,
-    is_carried: bool,
-    entries: SqlJournal<FileStore<D>>,
-) -> Result<SqlJournal<FileStore<D>>, JournalOpenFault>
-    requires { IsOpened ⟦<SqlJournal<FileStore<D>> as Journal>⟧ entries }
-    ensures { IfOk result (IsOpenedAgain ⟦<SqlJournal<FileStore<D>> as Journal>⟧ entries) }
-{
-    if !is_carried {
-        return Ok(entries);
-    }
-    file.keep(Opening::Looked);
-    journal_again(file.rt.alloc(), renewed(file.rt, connection_of(entries))?)
 }
 
 /// The connection of a journal.
@@ -149,15 +141,20 @@ fn connection_of<S: Alter>(entries: SqlJournal<S>) -> Connection<S>
     conn
 }
 
-/// The journal of a connection. If it is refused, the connection is dropped.
-fn journal_again<S: Alter + Drop>(
-    alloc: Global,
-    conn: Connection<S>,
-) -> Result<SqlJournal<S>, JournalOpenFault>
-    ensures { IfOk result (OpensFrom S.Store (state S.Store conn)) }
+/// Closes a connection that carried an older format over, and opens the journal of its files, which stay locked
+/// meanwhile. If this fails, the files are closed, and nothing is written to find out why. A journal that is of an
+/// older format again wasn't kept by its disk.
+fn opened_again<H: DatabaseHost, D: Disk + Drop>(
+    file: &DatabaseFile<'_, H>,
+    conn: Connection<FileStore<D>>,
+) -> Result<SqlJournal<FileStore<D>>, JournalOpenFault>
+    requires { IsCarried (file_state conn) }
+    ensures { IfOk result (IsOpenedAgain ⟦<SqlJournal<FileStore<D>> as Journal>⟧ conn) }
 {
-    match SqlJournal::open(alloc, conn) {
-        Ok(again) => Ok(again),
-        Err(refused) => Err(fault_of(refused)),
+    file.keep(Opening::Looked);
+    match opened_in(file.rt, closed(conn)?) {
+        Ok(Opened::Entries(entries)) => Ok(entries),
+        Ok(Opened::Carried(conn)) => Err(file.refused((JournalOpenFault::Store, Ok(conn)))),
+        Err(refused) => Err(file.refused(refused)),
     }
 }
