@@ -22,28 +22,47 @@ pub enum DatabaseReason {
     Failed(ErrorCode),
 }
 
-/// Why a database doesn't execute a statement, if there is one and it fails.
-fn failure_in<S: Alter + Drop>(
-    mut conn: Connection<S>,
-    statement: Option<&str>,
-) -> Option<DatabaseReason> {
-    match conn.execute(statement?, &[]) {
-        Ok(_) => None,
-        Err(error) => failure_of(error),
-    }
-}
-
-/// The same of a file's database.
+/// Why a database file doesn't execute a statement, if there is one and it fails.
 pub(crate) fn failure_at<D: Disk + Drop>(
     conn: Connection<FileStore<D>>,
     statement: Option<&str>,
 ) -> Option<DatabaseReason> {
-    failure_in(conn, statement)
+    tried(conn, statement).0
 }
 
 /// How the disk has failed since the file was opened. What isn't committed is dropped, and nothing is written.
 pub(crate) fn failure_since<D: Disk + Drop>(conn: Connection<FileStore<D>>) -> DatabaseReason {
-    failure_by(conn.into_store().close().tally())
+    failure_by(tried(conn, None).1)
+}
+
+/// Why a database file doesn't execute a statement, if there is one and it fails; and how its disk has failed since
+/// the file was opened. What isn't committed is dropped.
+fn tried<D: Disk + Drop>(
+    conn: Connection<FileStore<D>>,
+    statement: Option<&str>,
+) -> (Option<DatabaseReason>, Tally) {
+    let (failure, store) = executed(conn, statement);
+    (failure, store.close().tally())
+}
+
+/// Why a database doesn't execute a statement, if there is one and it fails; and the store of its connection.
+fn executed<S: Alter + Drop>(
+    mut conn: Connection<S>,
+    statement: Option<&str>,
+) -> (Option<DatabaseReason>, S) {
+    let failure = match statement {
+        Some(statement) => failure_in(&mut conn, statement),
+        None => None,
+    };
+    (failure, conn.into_store())
+}
+
+/// Why a database doesn't execute a statement, if it fails.
+fn failure_in<S: Alter>(conn: &mut Connection<S>, statement: &str) -> Option<DatabaseReason> {
+    match conn.execute(statement, &[]) {
+        Ok(_) => None,
+        Err(error) => failure_of(error),
+    }
 }
 
 /// The failure that an error names. A statement that doesn't suit the tables is none.
