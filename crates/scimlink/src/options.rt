@@ -1,4 +1,5 @@
 //! The commands and their options, as clap takes them.
+use clap::builder::ValueParser;
 use clap::{Arg, ArgAction, Command, value_parser};
 use commands::simulating::{DEFAULT_EVENTS, MOST_EVENTS};
 use std::alloc::{AllocError, Global};
@@ -291,7 +292,12 @@ fn arg_of<'a>(
     option: OptionText,
     events_help: &'a str,
 ) -> Result<Arg<'a>, AllocError> {
-    let arg = Arg::new(alloc, option.name).help(help_of(option.help, events_help));
+    let arg = Arg::new(alloc, option.name)
+        .help(help_of(option.help, events_help))
+        .value_name(value_name(option))
+        .value_parser(parser_of(option.value))
+        .action(action_of(option.value))
+        .default_values(default_of(option.value));
     ruled(taking(arg, option), option.rule)
 }
 
@@ -312,22 +318,47 @@ fn help_of<'a>(help: Help, events_help: &'a str) -> &'a str {
     }
 }
 
-/// The argument, with the value that the option takes after its name.
+/// The argument, with the option's name if it has one.
 fn taking<'a>(arg: Arg<'a>, option: OptionText) -> Arg<'a> {
     match option.value {
         Value::Place => arg,
-        value => with_value(arg.long(option.name), value),
+        _ => arg.long(option.name),
     }
 }
 
-fn with_value<'a>(arg: Arg<'a>, value: Value) -> Arg<'a> {
+/// What the help calls the value.
+fn value_name(option: OptionText) -> &'static str {
+    match option.value {
+        Value::Text(name) => name,
+        Value::Base => "URL",
+        Value::Count => "N",
+        Value::Seed => "S",
+        Value::Place | Value::Nothing => option.name,
+    }
+}
+
+/// How the value is read.
+fn parser_of(value: Value) -> ValueParser<'static> {
     match value {
-        Value::Place => arg,
-        Value::Text(name) => arg.value_name(name),
-        Value::Base => arg.value_name("URL").default_value(DEFAULT_BASE),
-        Value::Count => arg.value_name("N").value_parser(value_parser!(u32)),
-        Value::Seed => arg.value_name("S").value_parser(value_parser!(u64)),
-        Value::Nothing => arg.action(ArgAction::SetTrue),
+        Value::Place | Value::Text(_) | Value::Base => ValueParser::String,
+        Value::Count => value_parser!(u32),
+        Value::Seed => value_parser!(u64),
+        Value::Nothing => ValueParser::Bool,
+    }
+}
+
+fn action_of(value: Value) -> ArgAction {
+    match value {
+        Value::Nothing => ArgAction::SetTrue,
+        _ => ArgAction::Set,
+    }
+}
+
+/// The value of an option that is left out.
+fn default_of(value: Value) -> &'static [&'static str] {
+    match value {
+        Value::Base => &[DEFAULT_BASE],
+        _ => &[],
     }
 }
 
