@@ -26,32 +26,43 @@ pub fn simulate<R: Runtime + AllocGlobal>(
 ) -> Result<Status, CommandFault> {
     let events = wanted_events(schedule(words), seed(words), count(words))?;
     let connectors = wanted_connectors(events, connectors(words))?;
-    let base = Base::read(rt.alloc(), DEFAULT_BASE).map_err(base_fault)?;
     match (events, connectors) {
         (Events::Random { seed, count }, Some(connectors)) => {
-            run_several(rt, base, seed, count, connectors, settles(words))
+            run_several(rt, seed, count, connectors, settles(words))
         }
-        (Events::Random { seed, count }, None) => {
-            let events = random_schedule(rt.alloc(), seed, count)?;
-            run(rt, base, events.as_slice(), settles(words))
-        }
-        (Events::Scheduled(file), _) => scheduled(rt, base, file, settles(words)),
+        (Events::Random { seed, count }, None) => run_random(rt, seed, count, settles(words)),
+        (Events::Scheduled(file), _) => scheduled(rt, file, settles(words)),
     }
+}
+
+/// The base of the service that is simulated.
+fn own_base(alloc: Global) -> Result<Base, CommandFault> {
+    Base::read(alloc, DEFAULT_BASE).map_err(base_fault)
+}
+
+/// Runs random events.
+fn run_random<R: Runtime + AllocGlobal>(
+    rt: &R,
+    seed: u64,
+    count: u32,
+    settles: bool,
+) -> Result<Status, CommandFault> {
+    let events = random_schedule(rt.alloc(), seed, count)?;
+    run(rt, events.as_slice(), settles)
 }
 
 /// Runs the schedule in a file.
 fn scheduled<R: Runtime + AllocGlobal>(
     rt: &R,
-    base: Base,
     file: &str,
     settles: bool,
 ) -> Result<Status, CommandFault> {
     let text = fs::read_to_string(rt, file).map_err(|error| unread_fault(Part::File, error))?;
     match schedule_of(rt.alloc(), text.as_str())? {
-        Schedule::Alone(events) => run(rt, base, events.as_slice(), settles),
+        Schedule::Alone(events) => run(rt, events.as_slice(), settles),
         Schedule::Among(acts) => {
             tell_contested(rt, rt.alloc(), text.as_str(), acts.as_slice())?;
-            run_among(rt, base, acts.as_slice(), settles)
+            run_among(rt, acts.as_slice(), settles)
         }
     }
 }
@@ -59,10 +70,10 @@ fn scheduled<R: Runtime + AllocGlobal>(
 /// Runs these events over stores in memory.
 fn run<R: Runtime + AllocGlobal>(
     rt: &R,
-    base: Base,
     events: &[Event],
     settles: bool,
 ) -> Result<Status, CommandFault> {
+    let base = own_base(rt.alloc())?;
     let out = BufWriter::new(rt.alloc(), io::writer(rt))?;
     let registry = MemoryRegistry::new(rt.alloc());
     let journal = MemoryJournal::new(rt.alloc());
@@ -81,10 +92,10 @@ fn run<R: Runtime + AllocGlobal>(
 /// Runs these acts over stores in memory.
 fn run_among<R: Runtime + AllocGlobal>(
     rt: &R,
-    base: Base,
     acts: &[Act],
     settles: bool,
 ) -> Result<Status, CommandFault> {
+    let base = own_base(rt.alloc())?;
     let out = BufWriter::new(rt.alloc(), io::writer(rt))?;
     let registry = MemoryRegistry::new(rt.alloc());
     let journal = MemoryJournal::new(rt.alloc());
@@ -112,12 +123,12 @@ fn journals(alloc: Global, connectors: u32) -> Result<Vec<MemoryJournal>, Comman
 /// Runs random turns of this many connectors over stores in memory.
 fn run_several<R: Runtime + AllocGlobal>(
     rt: &R,
-    base: Base,
     seed: u64,
     count: u32,
     connectors: u32,
     settles: bool,
 ) -> Result<Status, CommandFault> {
+    let base = own_base(rt.alloc())?;
     let out = BufWriter::new(rt.alloc(), io::writer(rt))?;
     let others = journals(rt.alloc(), connectors)?;
     let registry = MemoryRegistry::new(rt.alloc());
