@@ -88,7 +88,8 @@ pub record CarriesFiles {D : Type 0} {g : disk.Ghosts D} (files : Files D) (now 
   pub finds : HasCleanDisk (file_state now) → FindsEntries g files (entries_in (file_state now).committed.trees)
 
 -- a journal was opened from files, and has the entries of their tables
-pub record OpensFromFiles {D : Type 0} {g : disk.Ghosts D} (files : Files D) (journal : Kept (FileStore D g)) : Type 0 where
+pub record OpensFromFiles {D : Type 0} {g : disk.Ghosts D} (files : Files D)
+    (journal : Kept (FileStore D g)) : Type 0 where
   pub faithful : IsHonest over_files journal → IsFaithful over_files journal
   pub counts : (journal.faults ≡ 0) × (journal.writes ≡ 0)
   pub found : IsHonest over_files journal → FindsEntries g files (kept_entries over_files journal)
@@ -99,7 +100,8 @@ OpensFiles files (Entries journal) = OpensFromFiles files journal
 OpensFiles files (Carried conn) = CarriesFiles files conn
 
 -- the files of a connection were connected to anew, and the journal has the entries of its last commit
-pub record IsOpenedAgain {D J : Type 0} {g : disk.Ghosts D} (kept : Ghosts J) (old : Held (FileStore D g)) (new : J) : Type 0 where
+pub record IsOpenedAgain {D J : Type 0} {g : disk.Ghosts D} (kept : Ghosts J) (old : Held (FileStore D g))
+    (new : J) : Type 0 where
   pub opened : IsOpened kept new
   pub was : kept.is_honest new → HasCleanDisk (file_state old)
   pub same : kept.is_honest new → kept.entries new ≡ entries_in (file_state old).committed.trees
