@@ -19,7 +19,7 @@ use Rattle.scim_resource.proofs.RoundTrips.{content_read, content_spelled}
 use Rattle.source_csv.specs.Records.{row_name, user}
 use Rattle.source_csv.specs.Rows.{GroupFields, IsGroupRow, UserFields, IsUserRow, text_of}
 use Rattle.source_csv.specs.declared.texts.TextField.TheVariants as field
-use Rattle.source_csv.proofs.RowLemmas.{short_text}
+use Rattle.mapping.proofs.RowLemmas.{short_text}
 use Rattle.source_csv.specs.declared.groups.TheConstants.{MEMBER_LIMIT}
 use Rattle.source_csv.specs.declared.rows.Row.{Row}
 use Rattle.source_csv.specs.declared.rows.Row.TheVariants.{User, Group}

@@ -1,5 +1,5 @@
 -- The order of revisions.
-use Rattle.std.proofs.Common.{◌≡◌, ◌==◌, ◌<◌, ◌≤◌, ◌^◌, ◌↔◌, ◌⊎◌, ℕ, List, [], ◌∷◌, ◌++◌, true, false, zero, suc, ◌+◌, Result, Ok, Some, codes, get_or, length, nat_lt, nat_le, ◌&&◌, ◌∙◌, ap, refl, sym, inl, inr, arith, rules, eqb-true}
+use Rattle.std.proofs.Common.{◌≡◌, ◌==◌, ◌<◌, ◌≤◌, ◌^◌, ◌↔◌, ◌⊎◌, ℕ, List, [], ◌∷◌, ◌++◌, true, false, zero, suc, ◌+◌, Result, Ok, None, Some, codes, get_or, length, nat_lt, nat_le, ◌&&◌, ◌∙◌, ap, refl, sym, inl, inr, arith, rules, eqb-true}
 use Rattle.std.proofs.lemmas.Bool.{and_parts, cases_Bool, le-leb, le-ltb, lt-ltb, ltb-true}
 use Rattle.std.proofs.lemmas.List.{length-append, take_at}
 use Rattle.std.proofs.Math.Seq.{drop-append-add}
@@ -13,7 +13,7 @@ use Rattle.std.specs.Char.{is_ascii_digit}
 use Rattle.std.specs.Fmt.{decimal}
 use Rattle.std.specs.List.{after_first, before_first, list_all, position_or_len}
 use Rattle.std.specs.Str.Parse.{ParsesUnsigned, digits_value}
-use Rattle.scim_key.specs.Revisions.{RevisionValue, IsNoneOrRevision, IsOrder, IsRevision, RevisionsAreReadBack, before, confirmed_of_parts, has_colon, is_colon, later, rank, is_numeral, is_revision, no_revision, numeral_value, most_revisions, read_revision, revision_epoch, revision_number, revision_of_parts, revision_text, same_revision, spelled_parts, ◌≺◌, ◌≼◌}
+use Rattle.scim_key.specs.Revisions.{RevisionValue, IsNoneOrRevision, Follows, IsOrder, IsRevision, NextsFollow, RevisionsAreReadBack, before, confirmed_of_parts, has_colon, is_colon, later, next_revision, rank, is_numeral, is_revision, no_revision, numeral_value, most_revisions, read_revision, revision_epoch, revision_number, revision_of_parts, revision_text, same_revision, spelled_parts, ◌≺◌, ◌≼◌}
 use Rattle.scim_key.specs.declared.revisions.TheConstants.{LAST_EPOCH, LAST_REVISION}
 
 pub irreflexive : (a : RevisionValue) → a ≺ a → ⊥
@@ -233,3 +233,72 @@ are_read_back = record {
   known_from_parts = known_from_parts;
   parts_fit = parts_fit;
 }
+
+-- ---- the next revision
+
+is_made : (epoch number : ℕ) (r : RevisionValue) → revision_of_parts epoch number ≡ Some r
+    → (r ≡ record { epoch = epoch; number = number }) × IsRevision r
+unfolding revision_of_parts
+is_made epoch number r is = elim (cases_Bool (is_revision (record { epoch = epoch; number = number }))) [
+  | inl lawful ↦
+      let same : r ≡ record { epoch = epoch; number = number } = sym (is_same_some _ r (rw lawful at is)) in
+      (same, rw same lawful)
+  | inr not ↦ let none : None ≡ Some r = rw not at is in absurd (cc)
+]
+
+is_unmade : (epoch number : ℕ) → revision_of_parts epoch number ≡ None
+    → is_revision (record { epoch = epoch; number = number }) ≡ false
+unfolding revision_of_parts
+is_unmade epoch number is = elim (cases_Bool (is_revision (record { epoch = epoch; number = number }))) [
+  | inl lawful ↦ let some : Some (record { epoch = epoch; number = number }) ≡ None = rw lawful at is in absurd (cc)
+  | inr not ↦ not
+]
+
+follows : (r after : RevisionValue) → next_revision r ≡ Some after → Follows r after
+unfolding next_revision before is_revision rank
+follows r after is = elim (cases_Bool (nat_lt r.number LAST_REVISION)) [
+  | inl below ↦
+      let its = is_made r.epoch (r.number + 1) after (rw below at is) in
+      let epoch : after.epoch ≡ r.epoch = ap (λ (v : RevisionValue). v.epoch) its.0 in
+      let number : after.number ≡ r.number + 1 = ap (λ (v : RevisionValue). v.number) its.0 in
+      record {
+        rises = grind (arith, nat_tests);
+        lawful = its.1;
+        nothing_between = λ other lawful later. grind (arith, nat_tests);
+        ranked = λ small. omega (arith, epoch, number);
+      }
+  | inr not ↦
+      let its = is_made (r.epoch + 1) 1 after (rw not at is) in
+      let epoch : after.epoch ≡ r.epoch + 1 = ap (λ (v : RevisionValue). v.epoch) its.0 in
+      let number : after.number ≡ 1 = ap (λ (v : RevisionValue). v.number) its.0 in
+      let full : LAST_REVISION ≤ r.number = grind (arith, nat_tests) in
+      record {
+        rises = grind (arith, nat_tests);
+        lawful = its.1;
+        nothing_between = λ other lawful later. let within = bounds other lawful in grind (arith, nat_tests);
+        ranked = λ small. absurd (omega (arith, small, full));
+      }
+]
+
+none_is_last : (r other : RevisionValue) → IsNoneOrRevision r → next_revision r ≡ None → IsRevision other
+    → other ≼ r
+unfolding next_revision before is_revision no_revision
+none_is_last r other (inl none) is lawful =
+    let small : nat_lt r.number LAST_REVISION ≡ true = rw none refl in
+    let unmade = is_unmade r.epoch (r.number + 1) (rw small at is) in
+    let first : r.epoch ≡ 0 = ap (λ (v : RevisionValue). v.epoch) none in
+    let zero : r.number ≡ 0 = ap (λ (v : RevisionValue). v.number) none in
+    absurd (grind (arith, nat_tests))
+none_is_last r other (inr known) is lawful = elim (cases_Bool (nat_lt r.number LAST_REVISION)) [
+  | inl below ↦
+      let unmade = is_unmade r.epoch (r.number + 1) (rw below at is) in
+      let its = bounds r known in
+      absurd (grind (arith, nat_tests))
+  | inr not ↦
+      let unmade = is_unmade (r.epoch + 1) 1 (rw not at is) in
+      let its = bounds other lawful in
+      grind (arith, nat_tests)
+]
+
+pub nexts_follow : NextsFollow
+nexts_follow = record { next = follows; last = none_is_last }

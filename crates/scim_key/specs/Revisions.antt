@@ -62,6 +62,12 @@ revision_of_parts epoch number =
     if is_revision (record { epoch = epoch; number = number })
     then Some (record { epoch = epoch; number = number }) else None
 
+-- the revision after this one: the next number of its epoch, then number 1 of the next epoch; none after the last one
+unfoldable pub next_revision : RevisionValue → Option RevisionValue
+next_revision r =
+    if nat_lt r.number LAST_REVISION then revision_of_parts r.epoch (r.number + 1)
+    else revision_of_parts (r.epoch + 1) 1
+
 -- the same, or none for 0 and 0
 unfoldable pub confirmed_of_parts : (epoch number : ℕ) → Option RevisionValue
 confirmed_of_parts epoch number =
@@ -135,3 +141,15 @@ pub record IsOrder : Type 0 where
   pub later_above_first : (a b : RevisionValue) → a ≼ later a b
   pub later_above_second : (a b : RevisionValue) → b ≼ later a b
   pub later_is_one : (a b : RevisionValue) → (later a b ≡ a) ⊎ (later a b ≡ b)
+
+-- what a revision has to do with the next one
+pub record Follows (before_ after : RevisionValue) : Type 0 where
+  pub rises : before_ ≺ after
+  pub lawful : IsRevision after
+  pub nothing_between : (other : RevisionValue) → IsRevision other → before_ ≺ other → after ≼ other
+  pub ranked : before_.number < LAST_REVISION → rank after ≡ rank before_ + 1
+
+-- the next revision follows, and there is one unless this is the last of all
+pub record NextsFollow : Type 0 where
+  pub next : (r after : RevisionValue) → next_revision r ≡ Some after → Follows r after
+  pub last : (r other : RevisionValue) → IsNoneOrRevision r → next_revision r ≡ None → IsRevision other → other ≼ r

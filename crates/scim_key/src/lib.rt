@@ -16,8 +16,8 @@ pub use identifiers::{ID_LIMIT, LAST_NUMBER, NUMBERED_ID_LENGTH, ResourceId, ids
 pub use names::{NAME_LIMIT, NameFault};
 pub use records::{Key, Kind, RecordName, record_names_are_ordered};
 pub use revisions::{
-    LAST_EPOCH, LAST_REVISION, REVISION_DIGITS, Revision, revisions_are_ordered,
-    revisions_are_read_back,
+    LAST_EPOCH, LAST_REVISION, REVISION_DIGITS, Revision, next_revisions_follow,
+    revisions_are_ordered, revisions_are_read_back,
 };
 pub use stores::StoreFault;
 pub use user_names::UserName;

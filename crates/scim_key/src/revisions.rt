@@ -4,7 +4,7 @@ ghost use Rattle.std.specs.Char.{is_ascii_digit};
 ghost use Rattle.std.specs.List.{list_all};
 ghost use Rattle.std.specs.Cmp.{partial_equiv_from_equiv};
 ghost use Rattle.scim_key.specs.RevisionOrder.{revisions_equal};
-ghost use Rattle.scim_key.specs.Revisions.{before, confirmed_of_parts, later, no_revision, numeral_value, read_revision, revision_epoch, revision_number, revision_of_parts, revision_text, same_revision, IsOrder, IsRevision, RevisionsAreReadBack};
+ghost use Rattle.scim_key.specs.Revisions.{before, confirmed_of_parts, later, next_revision, no_revision, numeral_value, read_revision, revision_epoch, revision_number, revision_of_parts, revision_text, same_revision, IsOrder, IsRevision, NextsFollow, RevisionsAreReadBack};
 ghost use Rattle.scim_key.specs.Revisions as spec;
 
 use std::fmt;
@@ -174,6 +174,20 @@ impl Revision {
         self.epoch < other.epoch || (self.epoch == other.epoch && self.number < other.number)
     }
 
+    /// The revision after this one: the next number of its epoch, or number 1 of the next epoch after
+    /// `LAST_REVISION`. There is none after the last revision of `LAST_EPOCH`. After none comes 1.
+    #[tactic(auto, unfolding(crate::specs::Revisions::next_revision))]
+    pub fn next(self) -> Option<Revision>
+        ensures exact { result ≡ next_revision self }
+        ensures lawful { IfSome result IsRevision }
+    {
+        if self.number < LAST_REVISION {
+            Revision::of_parts(self.epoch as u64, self.number as u64 + 1)
+        } else {
+            Revision::of_parts(self.epoch as u64 + 1, 1)
+        }
+    }
+
     /// The later of the two revisions.
     #[tactic(auto, unfolding(crate::specs::Revisions::later))]
     pub fn later(self, other: Revision) -> Revision
@@ -192,4 +206,10 @@ pub fn revisions_are_ordered()
 /// A valid revision, once written, is read back as itself.
 pub fn revisions_are_read_back()
     ensures { RevisionsAreReadBack }
+{}
+
+/// The revision that `next` gives comes after the one before, no revision is between the two, and only the very
+/// last one has none.
+pub fn next_revisions_follow()
+    ensures { NextsFollow }
 {}

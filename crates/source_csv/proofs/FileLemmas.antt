@@ -5,10 +5,11 @@ use Rattle.std.specs.List.{enumerate_from, find, list_all}
 use Rattle.std.specs.Option.{option_map}
 use Rattle.std.specs.Str.{bytes_eq}
 use Rattle.csv.specs.Machine.{Read, next_record}
-use Rattle.csv.specs.Reading.{AreRecords, Reached, default_config}
+use Rattle.csv.specs.Reading.{AreRecords, Reached}
+use Rattle.csv.specs.declared.parser.Config.{Config}
 use Rattle.csv.specs.Records.{field_at}
 use Rattle.csv.specs.declared.parser.State.{State}
-use Rattle.source_csv.specs.Fields.{Record, field, named}
+use Rattle.source_csv.specs.Columns.{Record, field, named}
 use Rattle.source_csv.proofs.FieldLemmas.{length_named}
 use Rattle.source_csv.specs.Files.{same_record}
 
@@ -42,21 +43,21 @@ pub columns_other : (fields : Record) (columns : List (Bor (List ℕ))) → (len
 columns_other fields columns other = sym (false_from_ne_true _ (λ e. other (same_length fields (named columns) e ∙ length_named columns)))
 
 -- if a record comes next, it is the first of the records; if none does, there are no records
-pub first_record : (s : State) (xs : List ℕ) (p : Read) (records : List Record)
-    → AreRecords default_config s xs records → next_record default_config s [] [] xs ≡ Some p
-    → (rest : List Record) × (records ≡ p.0 ∷ rest) × AreRecords default_config p.1 p.2 rest
+pub first_record : (config : Config) (s : State) (xs : List ℕ) (p : Read) (records : List Record)
+    → AreRecords config s xs records → next_record config s [] [] xs ≡ Some p
+    → (rest : List Record) × (records ≡ p.0 ∷ rest) × AreRecords config p.1 p.2 rest
 unfolding Reached
-first_record s xs p [] (t, ys, reached, end) e = absurd (cc (reached.0, reached.1, end, e))
-first_record s xs p (r ∷ rest) (t, ys, reached, end) e =
+first_record config s xs p [] (t, ys, reached, end) e = absurd (cc (reached.0, reached.1, end, e))
+first_record config s xs p (r ∷ rest) (t, ys, reached, end) e =
     let same : reached.0 ≡ p = cc (reached.1, e) in
-    let next : Reached default_config p.1 p.2 rest t ys = subst (λ (q : Read). Reached default_config q.1 q.2 rest t ys) same reached.3 in
+    let next : Reached config p.1 p.2 rest t ys = subst (λ (q : Read). Reached config q.1 q.2 rest t ys) same reached.3 in
     (rest, cc (reached.2, same), (t, ys, next, end))
 
-pub no_record : (s : State) (xs : List ℕ) (records : List Record)
-    → AreRecords default_config s xs records → next_record default_config s [] [] xs ≡ None → records ≡ []
+pub no_record : (config : Config) (s : State) (xs : List ℕ) (records : List Record)
+    → AreRecords config s xs records → next_record config s [] [] xs ≡ None → records ≡ []
 unfolding Reached
-no_record s xs [] are e = refl
-no_record s xs (r ∷ rest) (t, ys, reached, end) e = absurd (cc (reached.1, e))
+no_record config s xs [] are e = refl
+no_record config s xs (r ∷ rest) (t, ys, reached, end) e = absurd (cc (reached.1, e))
 
 -- the header of a record among headers, by their names
 pub find-named : (test : Record → Bool) (headers : List (Bor (List (Bor (List ℕ))))) → find test (map (λ c. named c.now) headers) ≡ option_map (λ c. named c.now) (find (λ c. test (named c.now)) headers)

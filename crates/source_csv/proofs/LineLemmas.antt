@@ -1,11 +1,11 @@
 -- One more byte, one more field, one more record.
-use Rattle.std.proofs.Common.{◌≡◌, ◌==◌, nat_lt, true, false, ℕ, suc, zero, ◌+◌, ◌<◌, List, [], ◌∷◌, ◌++◌, length, drop, max, refl, ap, sym, inl, inr, ◌∙◌, arith, add-one}
+use Rattle.std.proofs.Common.{◌≡◌, ◌==◌, nat_lt, true, false, ℕ, ◌+◌, ◌<◌, List, [], ◌∷◌, ◌++◌, length, drop, max, refl, ap, sym, inl, inr, ◌∙◌, arith, add-one}
 use Rattle.std.proofs.lemmas.Bool.{and_parts, cases_Bool}
 use Rattle.std.proofs.lemmas.Bool.Decides.{nat_tests}
 use Rattle.std.specs.Prelude.{option_to_list}
 use Rattle.std.specs.List.{list_all}
-use Rattle.csv.specs.Records.{field_at}
-use Rattle.source_csv.specs.Fields.{Record, field}
+use Rattle.source_csv.proofs.FieldLemmas.{drop_field}
+use Rattle.source_csv.specs.Columns.{Record, field}
 use Rattle.source_csv.specs.Lines.{field_lines, line_ends, multiline_at, multiline_from, record_lines}
 
 -- a field whose bytes all come after those that end a line
@@ -16,13 +16,6 @@ no_line_end (b ∷ text) h =
     let no_return : (b == 13) ≡ false = grind (parts.0, arith, nat_tests) in
     let no_feed : (b == 10) ≡ false = grind (parts.0, arith, nat_tests) in
     rw (no_return, no_feed, no_line_end text parts.1) refl
-
--- the remaining fields at a place begin with the one there
-drop_field : (fields : Record) (place : ℕ) → place < length fields → drop place fields ≡ field fields place ∷ drop (suc place) fields
-unfolding field_at
-drop_field [] place less = absurd (omega arith)
-drop_field (f ∷ fields) zero less = refl
-drop_field (f ∷ fields) (suc place) less = drop_field fields place (omega arith)
 
 max_of_three : (a b c : ℕ) → max (max a b) c ≡ max a (max b c)
 max_of_three a b c = omega arith

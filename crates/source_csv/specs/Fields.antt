@@ -1,26 +1,25 @@
 -- What the fields of a record say, and what a record is as a row: the first fault decides.
-use Rattle.std.specs.Prelude.{◌≡◌, ℕ, Bool, true, false, List, [], ◌∷◌, Result, Ok, Err, if◌then◌else◌, ◌||◌, ◌==◌, nat_lt, length, map, codes, is_none, unwrap_or}
-use denote.Ref.{Bor}
-use Rattle.std.specs.List.{list_all, list_any, position, slice_split}
+use Rattle.std.specs.Prelude.{◌≡◌, ℕ, Bool, true, false, List, [], ◌∷◌, Option, Some, None, Result, Ok, Err, if◌then◌else◌, ◌||◌, ◌&&◌, ◌==◌, nat_lt, length, map, codes, is_none}
+use Rattle.std.specs.List.{list_all, list_any, slice_split}
 use Rattle.std.specs.Option.{ok_or}
 use Rattle.std.specs.Str.{bytes_eq, is_utf8}
-use Rattle.csv.specs.Records.{field_at}
 use Rattle.scim_key.specs.Names.{group_name_fault, key_of, user_name_fault}
 use Rattle.scim_key.specs.Outcome.{◌>>=◌}
+use Rattle.scim_key.specs.declared.records.Kind.{Kind}
+use Rattle.scim_key.specs.declared.records.Kind.TheVariants as kind
+use Rattle.scim_key.specs.declared.records.RecordName.{RecordName}
 use Rattle.scim_key.specs.Revisions as revisions
 use Rattle.scim_key.specs.Revisions.{RevisionValue}
+pub use Rattle.source_csv.specs.Columns.{Record, named}
+use Rattle.source_csv.specs.Columns.{members_in, name_in, revision_in, status_in, texts_in}
 use Rattle.source_csv.specs.Rows.{GroupFields, UserFields, precedes}
 use Rattle.source_csv.specs.Texts.{is_short}
 use Rattle.source_csv.specs.declared.groups.TheConstants.{MEMBER_LIMIT}
-use Rattle.source_csv.specs.declared.texts.TheConstants.{TEXT_FIELDS}
+use Rattle.source_csv.specs.declared.columns.Columns.{Columns}
 use Rattle.source_csv.specs.declared.faults.RowCode.{RowCode}
 use Rattle.source_csv.specs.declared.faults.RowCode.TheVariants as code
 use Rattle.source_csv.specs.declared.faults.Refusal.{Refusal}
 use Rattle.source_csv.specs.declared.faults.Refusal.TheVariants.{Refused, Memory}
-
--- a record of a file: its fields
-abbrev pub Record : Type 0
-Record = List (List ℕ)
 
 -- S3: every field is UTF-8
 unfoldable pub read_texts : Record → Result Record RowCode
@@ -44,44 +43,18 @@ read_status text =
     if bytes_eq text (codes "active") then Ok true else if bytes_eq text (codes "left") then Ok false
     else Err code.Value
 
--- the field at a place; empty if there is none
-abbrev pub field : Record → ℕ → List ℕ
-field fields place = unwrap_or (field_at fields place) []
+-- a text of a user is too long
+unfoldable pub SomeIsLong : List (List ℕ) → Type 0
+SomeIsLong texts = list_all is_short texts ≡ false
 
--- the record whose fields are these names of columns
-abbrev pub named : List (Bor (List ℕ)) → Record
-named columns = map (λ column. column.now) columns
-
--- the place of the column of this name; that after the last if there is no such column
-abbrev pub place_in : Record → List ℕ → ℕ
-place_in columns name = unwrap_or (position (λ c. bytes_eq c name) columns) (length columns)
-
--- the field in the column of this name; empty if there is no such column
-abbrev pub column : Record → Record → List ℕ → List ℕ
-column columns fields name = field fields (place_in columns name)
-
--- the columns of the texts of a user
-abbrev pub text_columns : Record
-text_columns = map (λ column. column.now) TEXT_FIELDS
-
--- a text of a user in its column is too long
-unfoldable pub SomeIsLong : (List ℕ → List ℕ) → Type 0
-SomeIsLong column_named = list_all is_short (map column_named text_columns) ≡ false
-
--- the fields of a record, given the field in the column of each name, as a row
-unfoldable pub read_user_fields : (List ℕ → List ℕ) → Result UserFields RowCode
-read_user_fields column_named = do
-  login ← read_login (column_named (codes "login"))
-  revision ← read_revision (column_named (codes "revision"))
-  texts ← read_values (map column_named text_columns)
-  active ← read_status (column_named (codes "status"))
+-- the fields of a record of a user under a header with these columns, as a row
+unfoldable pub read_user_fields : Columns → Record → Result UserFields RowCode
+read_user_fields columns fields = do
+  login ← read_login (name_in columns fields)
+  revision ← read_revision (revision_in columns fields)
+  texts ← read_values (texts_in columns fields)
+  active ← read_status (status_in columns fields)
   Ok (record { login = login; revision = revision; texts = texts; active = active })
-
--- A record of a users file with these columns, as a row. S2: the number of fields is wrong.
-unfoldable pub read_user : Record → Record → Result UserFields RowCode
-read_user columns fields =
-    if length fields == length columns
-    then (read_texts fields >>= λ texts. read_user_fields (column columns texts)) else Err code.FieldCount
 
 -- S4: the name of a group
 unfoldable pub read_group_name : List ℕ → Result (List ℕ) RowCode
@@ -127,21 +100,50 @@ read_keys keys =
     else if nat_lt MEMBER_LIMIT (length keys) then Err code.TooManyMembers
     else Ok (in_order keys)
 
--- a record's fields by name, as a row
-unfoldable pub read_group_fields : (name revision members : List ℕ) → Result GroupFields RowCode
-read_group_fields name revision members = do
-  title ← read_group_name name
-  keys ← read_members members
-  count ← read_revision revision
+-- the fields of a record of a group under a header with these columns, as a row
+unfoldable pub read_group_fields : Columns → Record → Result GroupFields RowCode
+read_group_fields columns fields = do
+  name ← read_group_name (name_in columns fields)
+  keys ← read_members (members_in columns fields)
+  revision ← read_revision (revision_in columns fields)
   sorted ← read_keys keys
-  Ok (record { name = title; revision = count; members = sorted })
+  Ok (record { name = name; revision = revision; members = sorted })
 
--- A record of a groups file as a row. S2: the number of fields is wrong.
-unfoldable pub read_group : Record → Result GroupFields RowCode
-read_group (name ∷ revision ∷ members ∷ []) = do
-  texts ← read_texts (name ∷ revision ∷ members ∷ [])
-  read_group_fields name revision members
-read_group fields = Err code.FieldCount
+-- A record under a header with these columns, read by its fields. S2: the number of fields is wrong.
+abbrev pub read_under : {X : Type 0} → (Columns → Record → Result X RowCode) → Columns → Record
+    → Result X RowCode
+read_under reads columns fields =
+    if length fields == columns.count then (read_texts fields >>= λ texts. reads columns texts)
+    else Err code.FieldCount
+
+unfoldable pub read_user : Columns → Record → Result UserFields RowCode
+read_user columns fields = read_under read_user_fields columns fields
+
+unfoldable pub read_group : Columns → Record → Result GroupFields RowCode
+read_group columns fields = read_under read_group_fields columns fields
+
+-- ---- the name of a record
+
+-- S4: the key of the name of a record of this kind
+unfoldable pub read_key : Kind → List ℕ → Result (List ℕ) RowCode
+read_key kind.User text = read_member text
+read_key kind.Group text = do
+  name ← read_group_name text
+  Ok (key_of name)
+
+-- the name with this key; none if there is a fault in place of the key
+abbrev pub name_with : Kind → Result (List ℕ) RowCode → Option RecordName
+name_with of (Ok key) = Some (record { kind = of; key = key })
+name_with of (Err fault) = None
+
+-- The name of a record under a header with these columns, whatever else is wrong with it. There is none if the number
+-- of fields is wrong, since its columns may then be shifted, or if the field of the name is no name.
+unfoldable pub name_of : Kind → Columns → Record → Option RecordName
+name_of of columns fields =
+    if (length fields == columns.count) && is_utf8 (name_in columns fields)
+    then name_with of (read_key of (name_in columns fields)) else None
+
+-- ---- the results of readers
 
 -- the result is exactly what is read, or out of memory
 abbrev pub Reads : {X : Type 0} → Result X Refusal → Result X RowCode → Type 0

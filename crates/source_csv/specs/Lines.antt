@@ -1,7 +1,7 @@
 -- How many lines the fields of a record have.
 use Rattle.std.specs.Prelude.{ℕ, ◌+◌, ◌==◌, Bool, false, not, ◌&&◌, ◌||◌, List, [], ◌∷◌, ◌++◌, map, max, nat_lt, codes, Option, Some, None, if◌then◌else◌}
 use Rattle.std.specs.Fmt.{decimal}
-use Rattle.source_csv.specs.Fields.{Record}
+use Rattle.source_csv.specs.Columns.{Record}
 use Rattle.source_csv.specs.declared.missing_quotes.Multiline.{Multiline}
 
 -- a byte ends a line: a carriage return, or a line feed that doesn't follow one

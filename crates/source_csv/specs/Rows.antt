@@ -30,11 +30,15 @@ pub record IsUserRow (row : UserFields) : Type 0 where
 abbrev pub text_of : UserFields → TextField → List ℕ
 text_of row text = get_or row.texts (place_of text) []
 
--- whether all fields of two rows of users are equal, byte for byte: a login in another spelling is another field
+-- whether all fields of two rows of users but their revisions are equal, byte for byte: a login in another spelling is
+-- another field
+abbrev pub user_says_the_same : UserFields → UserFields → Bool
+user_says_the_same a b =
+    bytes_eq a.login b.login && beq a.active b.active && pointwise bytes_eq a.texts b.texts
+
+-- the same with their revisions
 abbrev pub same_user : UserFields → UserFields → Bool
-same_user a b =
-    bytes_eq a.login b.login && same_revision a.revision b.revision && beq a.active b.active &&
-    pointwise bytes_eq a.texts b.texts
+same_user a b = user_says_the_same a b && same_revision a.revision b.revision
 
 -- whether a key comes before another in byte order
 unfoldable pub precedes : List ℕ → List ℕ → Bool
@@ -68,6 +72,10 @@ pub record IsGroupRow (row : GroupFields) : Type 0 where
   pub rising : are_rising row.members ≡ true
   pub keys : AreUserKeys row.members
 
--- whether all fields of two rows of groups are equal, byte for byte
+-- whether all fields of two rows of groups but their revisions are equal, byte for byte
+abbrev pub group_says_the_same : GroupFields → GroupFields → Bool
+group_says_the_same a b = bytes_eq a.name b.name && pointwise bytes_eq a.members b.members
+
+-- the same with their revisions
 abbrev pub same_group : GroupFields → GroupFields → Bool
-same_group a b = bytes_eq a.name b.name && same_revision a.revision b.revision && pointwise bytes_eq a.members b.members
+same_group a b = group_says_the_same a b && same_revision a.revision b.revision

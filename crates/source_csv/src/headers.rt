@@ -4,7 +4,7 @@ ghost use Rattle.std.specs.List.{enumerate_from, find, list_all};
 ghost use Rattle.std.specs.Option.{option_map};
 ghost use Rattle.std.specs.Str.{bytes_eq};
 ghost use Rattle.csv.specs.Records.{fields_of};
-ghost use Rattle.source_csv.specs.Fields.{field, named};
+ghost use Rattle.source_csv.specs.Columns.{columns_named, field, named};
 ghost use Rattle.source_csv.specs.Files.{columns_of, same_record};
 
 use crate::columns::{Columns, bytes_at};
@@ -70,7 +70,7 @@ fn header_among(
         .copied()
 }
 
-/// The columns of a file of this kind with this header. `None` if no file of this kind has it.
+/// Our columns in a file of this kind with this header. `None` if no file of this kind has it.
 pub(crate) fn columns_of(kind: Kind, header: &ByteRecord) -> Option<Columns>
     ensures { result ≡ columns_of kind (fields_of header.now) }
 {
@@ -78,5 +78,5 @@ pub(crate) fn columns_of(kind: Kind, header: &ByteRecord) -> Option<Columns>
         Kind::User => header_among(&USER_HEADERS, header),
         Kind::Group => header_among(&GROUP_HEADERS, header),
     };
-    Some(Columns::of(names?))
+    Some(Columns::of(kind, names?))
 }

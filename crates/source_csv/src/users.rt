@@ -3,8 +3,8 @@ ghost use Rattle.std.specs.Prelude.{◌≡◌, ◌≤◌, ◌↔◌, IsTrue, Mat
 ghost use Rattle.csv.specs.Records.{fields_of};
 ghost use Rattle.scim_key.specs.Names.{IsUserName};
 ghost use Rattle.scim_key.specs.Revisions.{IsRevision};
-ghost use Rattle.source_csv.specs.Rows.{IsUserRow, same_user, text_of};
-ghost use Rattle.source_csv.specs.Fields.{Reads, column, read_user, read_user_fields};
+ghost use Rattle.source_csv.specs.Rows.{IsUserRow, same_user, text_of, user_says_the_same};
+ghost use Rattle.source_csv.specs.Fields.{Reads, read_user, read_user_fields};
 ghost use Rattle.source_csv.specs.declared.texts.TheConstants.{VALUE_LIMIT};
 
 use crate::columns::Columns;
@@ -60,10 +60,10 @@ impl Drop for UserRow {
 /// Reads the fields of a record with these columns.
 #[tactic(auto, unfolding(crate::specs::Fields::read_user_fields, crate::specs::Fields::read_values, crate::specs::Fields::SomeIsLong))]
 fn user_of(alloc: Global, columns: &Columns, texts: &StringRecord) -> Result<UserRow, Refusal>
-    ensures { Reads result (read_user_fields (column columns.now (fields_of texts.now))) }
+    ensures { Reads result (read_user_fields columns.now (fields_of texts.now)) }
 {
     Ok(UserRow {
-        login: login_of(alloc, columns.login(texts))?,
+        login: login_of(alloc, columns.name(texts))?,
         revision: revision_of(columns.revision(texts))?,
         texts: values_of(alloc, columns, texts)?,
         active: status_of(columns.status(texts))?,
@@ -77,9 +77,10 @@ pub(crate) fn read_user(
     columns: &Columns,
     raw: &mut ByteRecord,
 ) -> Result<UserRow, Refusal>
-    ensures { Reads result (read_user columns.now (fields_of raw.old)) }
+    ensures read { Reads result (read_user columns.now (fields_of raw.old)) }
+    ensures kept { fields_of raw.new ≡ fields_of raw.old }
 {
-    if raw.len() != columns.count() {
+    if raw.len() != columns.count {
         return Err(Refusal::Refused(RowCode::FieldCount));
     }
     let texts = texts_of(alloc, raw)?;
@@ -170,10 +171,44 @@ impl UserRow {
     fn matches(&self, other: &UserRow) -> bool
         ensures { result ≡ same_user self.now other.now }
     {
+        self.says_the_same(other) && self.revision == other.revision
+    }
+
+    /// The same row at this revision.
+    pub fn at_revision(self, revision: Revision) -> UserRow
+        requires { IsRevision revision }
+        ensures { result ≡ record self { revision = revision } }
+    {
+        let UserRow {
+            login,
+            revision: _,
+            texts,
+            active,
+        } = self;
+        UserRow {
+            login,
+            revision,
+            texts,
+            active,
+        }
+    }
+
+    /// Whether all fields but the revision are equal, by a test of each.
+    fn matches_but_revision(&self, other: &UserRow) -> bool
+        ensures { result ≡ user_says_the_same self.now other.now }
+    {
         self.login.as_str() == other.login.as_str()
-            && self.revision == other.revision
             && self.active == other.active
             && self.texts == other.texts
+    }
+
+    /// Whether all fields but the revision are equal, byte for byte.
+    pub fn says_the_same(&self, other: &UserRow) -> bool
+        ensures exact { result ≡ user_says_the_same self.now other.now }
+        ensures equal { IsTrue result
+            ↔ (record self.now { revision = other.now.revision } ≡ other.now) }
+    {
+        self.matches_but_revision(other)
     }
 
     /// Whether all fields are equal, byte for byte: a login in another spelling is another field.

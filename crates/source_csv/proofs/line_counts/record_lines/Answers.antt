@@ -1,6 +1,6 @@
 use Rattle.std.proofs.Common.{◌≡◌, ap, ◌∙◌, arith}
 use Rattle.csv.specs.Records.{fields_of}
-use Rattle.source_csv.specs.Fields.{field}
+use Rattle.source_csv.specs.Columns.{field}
 use Rattle.source_csv.specs.Lines.{field_lines}
 use Rattle.source_csv.proofs.LineLemmas.{one_field_more}
 use Rattle.source_csv.proofs.line_counts.record_lines.Goals as goal
