@@ -1,0 +1,9 @@
+pub mod Counting
+pub mod SameSaid
+pub mod Offers
+pub mod Whole
+pub mod After
+pub mod Twice
+pub mod Taken
+pub mod Verdicts
+pub mod Named

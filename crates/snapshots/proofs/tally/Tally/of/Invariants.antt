@@ -1,0 +1,9 @@
+use Rattle.std.proofs.Common.{◌≡◌, take}
+use Rattle.scim_key.specs.declared.records.RecordName.{RecordName}
+use Rattle.snapshots.specs.Snapshots.{mentions_in}
+use Rattle.snapshots.specs.Tally.{counts}
+use Rattle.snapshots.proofs.tally.Tally.of.Given as goal
+
+-- the records so far are counted
+abbrev pub invariant-loop-said : goal.invariant-loop-said
+invariant-loop-said l = (name : RecordName) → counts l.tally name ≡ mentions_in (take l.said-index l.records) name

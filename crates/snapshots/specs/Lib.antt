@@ -1,0 +1,3 @@
+pub mod Snapshots
+pub mod Tally
+pub mod Laws
