@@ -1,13 +1,13 @@
+pub mod Chains
 pub mod Comparisons
-pub mod Consumed
 pub mod Cuts
 pub mod Grammatical
 pub mod Keys
 pub mod Lexical
+pub mod Parsed
 pub mod Progress
 pub mod Quotes
 pub mod Spelling
-pub mod Stepwise
 pub mod Strings
 pub mod Values
 pub mod Written

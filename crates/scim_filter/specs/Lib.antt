@@ -4,9 +4,9 @@ pub mod Expressions
 pub mod Grammar
 pub mod Keys
 pub mod Lexing
-pub mod Machine
 pub mod Matching
 pub mod Names
+pub mod Parsing
 pub mod Texts
 pub mod Tokens
 pub mod Words

@@ -4,11 +4,11 @@ ghost use Rattle.scim_key.specs.Outcome.{Gives};
 ghost use Rattle.scim_filter.specs.Expressions.{Expression, Only, Both, Either, Negated, expression_of};
 
 use crate::matching::satisfies;
-use crate::reader::Reader;
+use crate::reader::read_filter;
 use crate::single::test_key;
 use crate::terms::{FilterText, Test, TextAttribute, TextOperator};
 use crate::texts::write_filter;
-use crate::tokens::token_at;
+use crate::tokens::tokens_of;
 use scim_key::{GroupName, RecordName, UserName};
 use scim_resource::Stored;
 use std::alloc::{AllocError, AllocFailed, Global};
@@ -93,14 +93,8 @@ impl Filter {
         if text.len() > TEXT_LIMIT {
             return Err(FilterFault::Unsupported);
         }
-        let mut reader = Reader::new(alloc);
-        let mut rest = text;
-        while !rest.is_empty() {
-            let (token, more) = token_at(alloc, rest)?;
-            reader = reader.take(alloc, token)?;
-            rest = more;
-        }
-        reader.finish(alloc)
+        let tokens = tokens_of(alloc, text)?;
+        read_filter(alloc, &tokens)
     }
 
     /// The filter `userName eq` with this name.

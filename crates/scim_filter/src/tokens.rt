@@ -1,8 +1,8 @@
 //! The tokens of a filter's text.
-ghost use Rattle.std.specs.Prelude.{◌≡◌, ◌<◌, ◌≤◌, ◌+◌, ◌-◌, false, IfSome, length, take, drop, slice_index};
+ghost use Rattle.std.specs.Prelude.{◌≡◌, ◌<◌, ◌≤◌, ◌+◌, ◌-◌, false, IfOk, IfSome, List, length, take, drop, slice_index};
 ghost use Rattle.std.specs.List.{prefix_len};
 ghost use Rattle.scim_key.specs.Outcome.{Gives, GivesBy};
-ghost use Rattle.scim_filter.specs.Tokens.{is_space, is_word_byte, quote_at};
+ghost use Rattle.scim_filter.specs.Tokens.{Consists, is_space, is_word_byte, quote_at};
 ghost use Rattle.scim_filter.specs.Lexing.{token_at, gap_at, word_at, quoted_at, text_of};
 ghost use Rattle.scim_filter.specs.declared.filters.FilterFault.TheVariants.{Memory};
 
@@ -144,7 +144,7 @@ fn quoted_at(alloc: Global, text: &str) -> Result<(Token, &str), FilterFault>
 
 /// The token at the front of a text, and the rest of the text.
 #[tactic(auto, unfolding(crate::specs::Lexing::token_at))]
-pub(crate) fn token_at(alloc: Global, text: &str) -> Result<(Token, &str), FilterFault>
+fn token_at(alloc: Global, text: &str) -> Result<(Token, &str), FilterFault>
     ensures { GivesBy (λ x. (x.0, x.1.now)) FilterFault.Memory result (token_at text.now) }
 {
     match text.as_bytes() {
@@ -155,4 +155,20 @@ pub(crate) fn token_at(alloc: Global, text: &str) -> Result<(Token, &str), Filte
         [b'"', ..] => quoted_at(alloc, text),
         _ => word_at(text),
     }
+}
+
+/// The tokens that a text consists of.
+pub(crate) fn tokens_of(alloc: Global, text: &str) -> Result<Vec<Token>, FilterFault>
+    ensures found { IfOk result (λ tokens. Consists text.now tokens.items) }
+    ensures only { (tokens : List Token) → Consists text.now tokens
+        → GivesBy (λ v. v.items) FilterFault.Memory result (Ok tokens) }
+{
+    let mut tokens = Vec::new(alloc);
+    let mut rest = text;
+    while !rest.is_empty() {
+        let (token, more) = token_at(alloc, rest)?;
+        tokens.push(token)?;
+        rest = more;
+    }
+    Ok(tokens)
 }
