@@ -1,25 +1,24 @@
 -- What is known of a request while its bytes arrive.
-use Rattle.std.proofs.Common.{◌≡◌, ℕ, ◌+◌, ◌-◌, ◌/◌, ◌<◌, ◌≤◌, inl, inr, Bool, true, false, cond, List, [], ◌∷◌, ◌++◌, length, take, drop, Option, Some, None, Result, Ok, Err, refl, sym, ap, subst, ◌∙◌, append_assoc, append-nil, arith, length-append}
-use Rattle.std.specs.Prelude.{IsTrue, IfOk, IfSome, if◌then◌else◌, ◌==◌, ◌||◌, not, nat_lt, codes}
-use Rattle.std.specs.List.{flat_map, list_any}
-use Rattle.std.proofs.lemmas.Bool.{cases_lt}
+use Rattle.std.proofs.Common.{◌≡◌, ◌↔◌, ℕ, ◌+◌, ◌-◌, ◌*◌, ◌<◌, ◌≤◌, inl, inr, Bool, true, false, cond, List, [], ◌++◌, length, take, drop, Option, Some, None, Result, Ok, Err, refl, sym, ap, subst, ◌∙◌, append_assoc, append-nil, arith, length-append}
+use Rattle.std.specs.Prelude.{IfOk, IfSome, if◌then◌else◌, not, nat_lt, codes}
+use Rattle.std.proofs.lemmas.Bool.{false≢true}
 use Rattle.std.proofs.lemmas.Bool.Decides.{nat_tests}
 use Rattle.std.proofs.lemmas.Result.{IfOk-at_ok}
 use Rattle.std.proofs.lemmas.List.{take-append-drop, length-take-le}
-use Rattle.std.proofs.Math.Seq.{drop-append_seam}
-use Rattle.std.proofs.lemmas.List.Folds.{list_any-append}
-use Rattle.httparse.specs.Ascii.{line_feed, carriage_return}
-use Rattle.httparse.specs.Grammar.{RequestHead, LineEnd, crlf, lf, print_end, print_field, print_section, print_request}
 use Rattle.http_text.specs.declared.fault.ReadFault.{ReadFault}
 use Rattle.http_text.specs.declared.fault.ReadFault.TheVariants.{Malformed, HostMissingOrRepeated, BodyTooLong, TransferCoding, Expectation}
 use Rattle.http_text.specs.Message.{Head, Message, Length, absent, stated, unreadable, minor_of, values, length_of, body_limit, head_limit}
 use Rattle.http_text.specs.Judging.{◌>>=◌, refused_where, readable_length, length_wanted, is_head, has_body, is_host_wrong, is_any, judge_head}
 use Rattle.http_text.specs.Forms.{request_form}
-use Rattle.http_text.specs.Heads.{HasNone, IsPartOfBody, IsUnfinished, FindsMessage, TakesMessage}
+use Rattle.http_text.specs.Heads.{IsPartOfBody, IsUnfinished, FindsMessage, TakesMessage}
 use Rattle.http_text.proofs.FormLaws.{request_laws}
 use Rattle.http_text.proofs.JudgeLemmas.{accepted_length}
-use Rattle.http_text.proofs.ListLemmas.{front_of, rest_from, same_split, split_last}
+use Rattle.http_text.proofs.ListLemmas.{front_of}
 use Rattle.connection.specs.Arriving.{HasLength, AreUndecided, IsPutOff, Waits}
+use Rattle.connection.specs.Lines.{lines_after}
+use Rattle.connection.specs.declared.lines.HeadLines.{HeadLines}
+use Rattle.connection.specs.declared.lines.HeadLines.TheVariants.{Blank, Ended}
+use Rattle.connection.proofs.LineLemmas.{lines_append, no_head}
 
 -- ---- a head that isn't refused states at most the longest body
 
@@ -181,84 +180,26 @@ all_undecided bytes unfinished none = elim unfinished [
 pub none_read : AreUndecided [] 0
 none_read = record { front = []; more = []; split = refl; count_is = refl; undecided = request_laws.undecided }
 
--- ---- a head ends with a line
+-- ---- a request that is put off
 
-abbrev EndsInLine : List ℕ → Type 0
-EndsInLine xs = (front : List ℕ) × (xs ≡ front ++ line_feed ∷ [])
+pub goes_on : (b : Bool) (lines after : HeadLines) → ((b ≡ true) ↔ (lines ≡ Ended)) → (not b ≡ true) → lines ≡ after
+    → (after ≡ Ended) → ⊥
+goes_on true lines after decides unended is end = false≢true unended
+goes_on false lines after decides unended is end = false≢true (decides.1 (is ∙ end))
 
-ends_after : (xs ys : List ℕ) → EndsInLine ys → EndsInLine (xs ++ ys)
-ends_after xs ys ends = (xs ++ ends.0, ap (λ (t : List ℕ). xs ++ t) ends.1 ∙ sym (append_assoc xs ends.0 (line_feed ∷ [])))
+pub put_off : (bytes : List ℕ) (read : ℕ) → AreUndecided bytes read → length bytes < head_limit
+    → (length bytes - read) * 8 ≤ read → ((lines_after Blank bytes ≡ Ended) → ⊥) → IsPutOff bytes
+put_off bytes read has size few goes_on = record {
+  count = read;
+  undecided = has;
+  few = few;
+  none = no_head bytes goes_on;
+  size = size;
+}
 
-ends_then : (x : ℕ) (ys : List ℕ) → EndsInLine ys → EndsInLine (x ∷ ys)
-ends_then x ys ends = (x ∷ ends.0, ap (λ (t : List ℕ). x ∷ t) ends.1)
-
-end_ends : (end : LineEnd) → EndsInLine (print_end end)
-end_ends crlf = (carriage_return ∷ [], refl)
-end_ends lf = ([], refl)
-
-head_ends : (h : RequestHead) → EndsInLine (print_request h)
-unfolding print_request
-head_ends h = ends_after _ (print_section h.fields h.last) (ends_after (flat_map print_field h.fields) _ (end_ends h.last))
-
-or_true : (b : Bool) → (b || true) ≡ true
-or_true true = refl
-or_true false = refl
-
-has_line_feed : (xs ys : List ℕ) → list_any (λ byte. byte == 10) (xs ++ line_feed ∷ ys) ≡ true
-has_line_feed xs ys = list_any-append (λ byte. byte == 10) xs (line_feed ∷ ys) ∙ or_true (list_any (λ byte. byte == 10) xs)
-
--- the last byte of the longer of two fronts
-last_is : (short xs last : List ℕ) (x : ℕ) (ends : EndsInLine (short ++ xs)) → xs ≡ last ++ x ∷ [] → x ≡ line_feed
-last_is short xs last x ends is =
-    let both : (short ++ last) ++ x ∷ [] ≡ ends.0 ++ line_feed ∷ [] =
-    append_assoc short last (x ∷ []) ∙ ap (λ (t : List ℕ). short ++ t) (sym is) ∙ ends.1 in
-    let sizes : length ((short ++ last) ++ x ∷ []) ≡ length (ends.0 ++ line_feed ∷ []) = ap length both in
-    let left : length ((short ++ last) ++ x ∷ []) ≡ length (short ++ last) + 1 = length-append (short ++ last) (x ∷ []) in
-    let right : length (ends.0 ++ line_feed ∷ []) ≡ length ends.0 + 1 = length-append ends.0 (line_feed ∷ []) in
-    let tails = same_split (short ++ last) (x ∷ []) ends.0 (line_feed ∷ []) both (omega (arith, sizes, left, right)) in
-    let end : x ∷ [] ≡ line_feed ∷ [] = tails.1 in
-    cc
-
--- no head is whole if none was before, and no line has ended since
-no_head : (bytes front more : List ℕ) → bytes ≡ front ++ more → HasNone request_form front
-    → list_any (λ byte. byte == 10) more ≡ false → HasNone request_form bytes
-no_head bytes front more split none no_line h rest reads =
-    let printed = print_request h in
-    let same : printed ++ rest ≡ front ++ more = sym reads.1 ∙ split in
-    elim (cases_lt (length front) (length printed)) [
-      | inl longer ↦
-          let parts = front_of front more printed rest (sym same) (omega (arith, longer)) in
-          let size : length printed ≡ length front + length parts.0 = ap length parts.1 ∙ length-append front parts.0 in
-          let last = split_last parts.0 (omega (arith, longer, size)) in
-          let is : last.1 ≡ line_feed = last_is front parts.0 last.0 last.1 (subst EndsInLine parts.1 (head_ends h)) last.2 in
-          let more_is : more ≡ last.0 ++ line_feed ∷ rest =
-          parts.2 ∙ ap (λ (t : List ℕ). t ++ rest) (last.2 ∙ ap (λ (x : ℕ). last.0 ++ x ∷ []) is) ∙ append_assoc last.0 (line_feed ∷ []) rest in
-          let found : list_any (λ byte. byte == 10) more ≡ true = ap (list_any (λ byte. byte == 10)) more_is ∙ has_line_feed last.0 rest in
-          let never : true ≡ false = sym found ∙ no_line in
-          absurd (let clash : true ≡ false = never in cc)
-      | inr shorter ↦
-          let parts = front_of printed rest front more same shorter in
-          none h parts.0 (reads.0, parts.1)
-    ]
-
-rest_is : (bytes front more : List ℕ) (count : ℕ) → bytes ≡ front ++ more → length front ≡ count → drop count bytes ≡ more
-rest_is bytes front more count split count_is =
-    ap (λ (t : List ℕ). drop count t) split ∙ ap (λ (n : ℕ). drop n (front ++ more)) (sym count_is) ∙ drop-append_seam front more
-
-not_true : (b : Bool) → IsTrue (not b) → b ≡ false
-not_true true h = absurd (let clash : false ≡ true = h in cc)
-not_true false h = refl
-
-pub put_off : (bytes more : List ℕ) (count : ℕ) (b : Bool) → AreUndecided bytes count → length bytes < head_limit
-    → more ≡ take (length bytes - count) (drop count bytes) → length more + count ≡ length bytes → length more ≤ count / 8
-    → b ≡ list_any (λ byte. byte == 10) more → IsTrue (not b) → IsPutOff bytes
-put_off bytes more count b has size more_is sizes few any no_line =
-    let rest : has.more ≡ more = sym (more_is ∙ rest_from count bytes ∙ rest_is bytes has.front has.more count has.split has.count_is) in
-    record {
-      count = count;
-      undecided = has;
-      few = omega (arith, sizes, few);
-      none = no_head bytes has.front has.more has.split has.undecided.none
-          (ap (list_any (λ byte. byte == 10)) rest ∙ sym any ∙ not_true b no_line);
-      size = size;
-    }
+-- bytes were added, or couldn't be
+pub added_lines : (b : Bool) (bytes more now : List ℕ) (before after : HeadLines) → now ≡ (if b then bytes ++ more else bytes)
+    → before ≡ lines_after Blank bytes → after ≡ (if b then lines_after before more else before) → after ≡ lines_after Blank now
+added_lines true bytes more now before after is was then_is =
+    then_is ∙ ap (λ (l : HeadLines). lines_after l more) was ∙ sym (ap (lines_after Blank) is ∙ lines_append Blank bytes more)
+added_lines false bytes more now before after is was then_is = then_is ∙ was ∙ ap (lines_after Blank) (sym is)

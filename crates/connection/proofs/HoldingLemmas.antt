@@ -1,16 +1,22 @@
 -- Looks at connections in turn.
-use Rattle.std.proofs.Common.{inl, inr, ◌≡◌, ◌⊎◌, ◌+◌, ◌∷◌, [], ◌≤◌, ◌<◌, ℕ, List, Option, Bool, true, false, length, refl, sym, ap, subst, ◌∙◌, drop, slice_index_or, arith}
-use Rattle.std.specs.Prelude.{if◌then◌else◌}
+use Rattle.std.proofs.Common.{inl, inr, ◌≡◌, ◌⊎◌, ◌+◌, ◌∷◌, [], ◌≤◌, ◌<◌, ℕ, suc, List, Option, Some, None, Bool, true, false, length, refl, sym, ap, subst, ◌∙◌, drop, slice_index_or, slice_set, arith}
+use Rattle.std.specs.Prelude.{if◌then◌else◌, OnSome}
+use Rattle.std.specs.List.{remove}
 use Rattle.std.proofs.lemmas.Bool.{cases_lt}
+use Rattle.std.proofs.lemmas.List.{get_or-set_other, get_or-set_same, get_or_default, get_or_read, length-set}
+use Rattle.std.proofs.lemmas.List.Edits.{get_or-remove_above, get_or-remove_below, length-remove}
 use Rattle.std.proofs.lemmas.List.Sums.{sum_by_more}
 use Rattle.std.specs.declared.time.Instant.{Instant}
+use Rattle.timed_streams.specs.declared.deadline.Deadline.{Deadline}
+use Rattle.connection.specs.declared.ending.Ending.{Ending}
+use Rattle.connection.specs.Endings.{rate}
 use Rattle.connection.specs.declared.held.Held.{Held}
 use Rattle.connection.specs.declared.held.Arrival.{Arrival}
 use Rattle.connection.specs.declared.held.Arrival.TheVariants.{Bytes, Nothing, Last}
 use Rattle.connection.specs.declared.received.Received.{Received}
 use Rattle.connection.specs.declared.waiting.Waiting.{Waiting}
 use Rattle.connection.specs.Arriving.{Waits}
-use Rattle.connection.specs.Holding.{ArePassed, GivesUp, HasCome, IsDue, IsPassed, LooksAt, MovesUp, is_time, looks_before}
+use Rattle.connection.specs.Holding.{ArePassed, GivesUp, HasCome, IsDue, IsLookedAtBy, IsNoted, IsPassed, IsSame, Looks, LooksAt, MovesUp, Notes, NotesAt, TakesFirst, is_time, looks_before, size_of}
 
 some_of : {X : Type 0} (n : ℕ) (xs : List X) → n < length xs → X
 some_of n [] there = absurd (let none : n < 0 = there in omega (arith, none))
@@ -65,7 +71,7 @@ module _ {S : Type 0} (remaining : S → Option (List ℕ)) (now : Instant) wher
   -- the next one was looked at, in vain
   pub one_look : (first place looks : ℕ) (old mid new : List (Held S)) → first ≤ place → place < length old
       → SoFar first place looks old mid → ((d : Held S) → is_time now (slice_index_or mid place d) ≡ true)
-      → LooksAt remaining now place mid new false → SoFar first (place + 1) (looks + 1) old new
+      → LooksAt remaining place mid new false → SoFar first (place + 1) (looks + 1) old new
   one_look first place looks old mid new begun there before time found = record {
     passed = then_passed first place old mid new begun before.passed (λ d. before.others place d (inr (omega arith))) found.others
         (λ d. inl (time d, found.there d));
@@ -91,6 +97,78 @@ module _ {S : Type 0} (remaining : S → Option (List ℕ)) (now : Instant) wher
         let none = one_look_more place d old false there (ap (is_time now) (sym (before.others place d (inr (omega arith)))) ∙ early d) in
         omega (arith, none, before.counted);
   }
+
+  -- the next one can be served, and was taken out
+  pub took_out : (most first place looks end : ℕ) (old mid seen new : List (Held S)) (taken : Option (Held S)) → first ≤ place
+      → place < end → place < length old → looks < most → SoFar first place looks old mid → LooksAt remaining place mid seen true
+      → ((d : Held S) → taken ≡ Some (slice_index_or seen place d)) → OnSome taken (new ≡ remove seen place)
+      → TakesFirst remaining now most first end place old new taken
+  took_out most first place looks end old mid seen new taken begun inside there few before found is are =
+      let x : Held S = some_of place old there in
+      let held : Held S = slice_index_or seen place x in
+      let within : place < length seen = omega (arith, found.length, before.length, there) in
+      let rest : new ≡ remove seen place = subst (λ (t : Option (Held S)). OnSome t (new ≡ remove seen place)) (is x) are in
+      let earlier = λ (n : ℕ) (d : Held S) (below : n < place).
+      get_or-remove_below seen place d n below within ∙ found.others n d (λ same. absurd (omega (arith, below, same))) in
+      let body : TakesFirst remaining now most first end place old (remove seen place) (Some held) = (
+        begun,
+        inside,
+        omega (arith, before.counted, few),
+        λ n d above below. subst (λ (h : Held S). IsPassed remaining now (slice_index_or old n d) h) (sym (earlier n d below))
+            (before.passed n d above below),
+        λ n d below. earlier n d (omega (arith, below, begun)) ∙ before.others n d (inl below),
+        λ d. subst (λ (h : Held S). Looks remaining (slice_index_or old place d) h true) (get_or_default seen place d x within)
+            (subst (λ (h : Held S). Looks remaining h (slice_index_or seen place d) true) (before.others place d (inr (omega arith))) (found.there d)),
+        λ n d from below.
+            let next : n + 1 ≡ suc n = omega arith in
+            get_or-remove_above seen place d n from within
+            ∙ found.others (n + 1) d (λ same. absurd (omega (arith, from, same)))
+            ∙ before.others (n + 1) d (inr (omega (arith, from)))
+            ∙ ap (λ (k : ℕ). slice_index_or old k d) next,
+        length-remove seen place within ∙ found.length ∙ before.length,
+      ) in
+      subst (λ (t : Option (Held S)). TakesFirst remaining now most first end place old new t) (sym (is x))
+      (subst (λ (l : List (Held S)). TakesFirst remaining now most first end place old l (Some held)) (sym rest) body)
+
+  -- all of the round were passed
+  pub passed_all : (most first place looks end : ℕ) (old new : List (Held S)) → first ≤ place → place ≡ end → looks ≤ most
+      → SoFar first place looks old new → TakesFirst remaining now most first end end old new None
+  passed_all most first place looks end old new begun last few before =
+      let all : SoFar first end looks old new = subst (λ (n : ℕ). SoFar first n looks old new) last before in (
+        omega (arith, begun, last),
+        omega arith,
+        inl refl,
+        omega (arith, all.counted, few),
+        all.passed,
+        all.others,
+        all.length,
+      )
+
+-- one of them was looked at in its place
+pub looked_at : {S : Type 0} (remaining : S → Option (List ℕ)) (place : ℕ) (items : List (Held S)) (before after : Held S) (is_ready : Bool)
+    → place < length items → before ≡ slice_index_or items place before → Looks remaining before after is_ready
+    → LooksAt remaining place items (slice_set items place after) is_ready
+looked_at remaining place items before after is_ready there is looks = record {
+  there = λ d. subst (λ (h : Held _). Looks remaining (slice_index_or items place d) h is_ready) (sym (get_or-set_same items place after d there))
+      (subst (λ (h : Held _). Looks remaining h after is_ready) (get_or_read items place before there is d) looks);
+  others = λ n d other. get_or-set_other items place n after d other;
+  length = length-set items place after;
+}
+
+-- after two reads
+pub same_since : {S : Type 0} (old mid new : Held S) → IsSame old mid → IsSame mid new → IsSame old new
+same_since old mid new first later = record {
+  number = later.number ∙ first.number;
+  deadline = later.deadline ∙ first.deadline;
+  accepted = later.accepted ∙ first.accepted;
+}
+
+pub looked_since : {S : Type 0} (old mid new : Held S) → IsSame old mid → IsLookedAtBy old mid → IsLookedAtBy mid new
+    → IsLookedAtBy old new
+looked_since old mid new same first later = elim later [
+  | inl stays ↦ elim first [ inl stayed ↦ inl (stays ∙ stayed) | inr ended ↦ inr (stays ∙ ended) ]
+  | inr ends ↦ inr (ends ∙ ap (λ (d : Deadline). d.end) same.deadline)
+]
 
 pub come_now : (before after : Received) (arrival : Arrival) → arrival ≡ Bytes → HasCome before after arrival → ∥ Waits after.bytes.items ∥₁
 come_now before after arrival is come = subst (HasCome before after) is come
@@ -131,3 +209,80 @@ first_left now old new (oldest ∷ others) are some due rest moves = record {
 pub gave_up : {S : Type 0} → (now : Instant) (old new : Waiting S) → IsDue old.connections.items now
     → new.connections.items ≡ drop 1 old.connections.items → MovesUp old new → GivesUp now old new
 gave_up now old new due rest moves = first_left now old new old.connections.items refl due due rest moves
+
+-- ---- what may have come
+
+-- it is noted of the connection with this number
+pub noted_at : {S : Type 0} (number : ℕ) (now : Instant) (place : ℕ) (old new : Waiting S) → NotesAt place now old new
+    → ((d : Held S) → (slice_index_or old.connections.items place d).number ≡ number) → Notes number now old new
+noted_at number now place old new notes is = record {
+  noted = λ n d. elim (cases_lt n place) [
+    | inl below ↦ inl (notes.others n d (λ same. absurd (omega (arith, below, same))))
+    | inr from ↦ elim (cases_lt place n) [
+      | inl above ↦ inl (notes.others n d (λ same. absurd (omega (arith, above, same))))
+      | inr until ↦
+          let here : place ≡ n = omega (arith, from, until) in
+          subst (λ (k : ℕ). IsNoted number now (slice_index_or old.connections.items k d) (slice_index_or new.connections.items k d))
+          here (inr (is d, notes.there d))
+    ]
+  ];
+  length = notes.length;
+  stays = notes.stays;
+}
+
+-- nothing is noted
+pub none_noted : {S : Type 0} (number : ℕ) (now : Instant) (waiting : Waiting S) → Notes number now waiting waiting
+none_noted number now waiting = record {
+  noted = λ n d. inl refl;
+  length = refl;
+  stays = record { next = refl; end = refl };
+}
+
+-- ---- the first by some order
+
+module _ {X : Type 0} (IsBefore : X → X → Type 0) where
+  -- the one that was found is there, and is before each that stands before a place
+  pub record FirstSoFar (xs : List X) (place found : ℕ) : Type 0 where
+    pub there : found < length xs
+    pub first : (n : ℕ) (d : X) → n < place → IsBefore (slice_index_or xs found d) (slice_index_or xs n d)
+
+  pub only_one : (xs : List X) → ((x : X) → IsBefore x x) → 0 < length xs → FirstSoFar xs 1 0
+  only_one xs itself some = record {
+    there = some;
+    first = λ n d before. let here : n ≡ 0 = omega (arith, before) in
+        subst (λ (k : ℕ). IsBefore (slice_index_or xs 0 d) (slice_index_or xs k d)) (sym here) (itself (slice_index_or xs 0 d));
+  }
+
+  -- the one at the place is before the one that was found, or isn't
+  pub or_this : (xs : List X) (place found : ℕ) → ((x : X) → IsBefore x x)
+      → ((x y z : X) → IsBefore x y → IsBefore y z → IsBefore x z) → FirstSoFar xs place found → place < length xs
+      → ((d : X) → IsBefore (slice_index_or xs place d) (slice_index_or xs found d)) → FirstSoFar xs (place + 1) place
+  or_this xs place found itself through before there is = record {
+    there = there;
+    first = λ n d below. elim (cases_lt n place) [
+      | inl earlier ↦ through (slice_index_or xs place d) (slice_index_or xs found d) (slice_index_or xs n d) (is d) (before.first n d earlier)
+      | inr later ↦
+          let here : n ≡ place = omega (arith, below, later) in
+          subst (λ (k : ℕ). IsBefore (slice_index_or xs place d) (slice_index_or xs k d)) (sym here) (itself (slice_index_or xs place d))
+    ];
+  }
+
+  pub still_that : (xs : List X) (place found : ℕ) → FirstSoFar xs place found
+      → ((d : X) → IsBefore (slice_index_or xs found d) (slice_index_or xs place d)) → FirstSoFar xs (place + 1) found
+  still_that xs place found before is = record {
+    there = before.there;
+    first = λ n d below. elim (cases_lt n place) [
+      | inl earlier ↦ before.first n d earlier
+      | inr later ↦
+          let here : n ≡ place = omega (arith, below, later) in
+          subst (λ (k : ℕ). IsBefore (slice_index_or xs found d) (slice_index_or xs k d)) (sym here) (is d)
+    ];
+  }
+
+-- a request that takes no less memory
+abbrev pub IsNoSmaller : {S : Type 0} → (one other : Held S) → Type 0
+IsNoSmaller one other = size_of other ≤ size_of one
+
+-- a peer that takes its answer no more quickly
+abbrev pub IsNoQuicker : {S C : Type 0} → (now : Instant) → (one other : Ending S C) → Type 0
+IsNoQuicker now one other = rate now one ≤ rate now other

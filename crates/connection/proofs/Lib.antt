@@ -1,3 +1,4 @@
+pub mod SearchLemmas
 pub mod ServedLemmas
 pub mod ReplyLemmas
 mod RequestLemmas
@@ -5,4 +6,5 @@ mod HoldingLemmas
 mod RoundLemmas
 mod StreamLemmas
 mod TurnLemmas
+mod LineLemmas
 mod ArrivingLemmas

@@ -1,14 +1,15 @@
 -- Whoever is held when a round begins is met before the next one begins.
-use Rattle.std.proofs.Common.{inl, inr, ◌≡◌, ◌⊎◌, ◌+◌, ◌-◌, ◌∷◌, [], ◌++◌, ◌≤◌, ◌<◌, ℕ, zero, suc, List, Option, Some, None, length, sym, ap, ◌∙◌, slice_index_or, nat_lt, length-append, append-nil, arith}
+use Rattle.std.proofs.Common.{inl, inr, ◌≡◌, ◌⊎◌, ◌+◌, ◌-◌, ◌∷◌, [], ◌++◌, ◌≤◌, ◌<◌, ℕ, zero, suc, List, Option, Some, None, length, sym, ap, subst, ◌∙◌, slice_index_or, nat_lt, length-append, append-nil, arith}
 use Rattle.std.specs.Prelude.{if◌then◌else◌}
 use Rattle.std.specs.VecDeque.{deque_len}
 use Rattle.std.proofs.lemmas.Bool.{cases_lt}
 use Rattle.std.proofs.lemmas.Bool.Decides.{nat_tests}
 use Rattle.std.proofs.lemmas.List.{get_or_append_left}
+use Rattle.std.proofs.lemmas.List.Edits.{get_or-remove_above, get_or-remove_below, length-remove}
 use Rattle.std.specs.declared.time.Instant.{Instant}
 use Rattle.connection.specs.declared.held.Held.{Held}
 use Rattle.connection.specs.declared.waiting.Waiting.{Waiting}
-use Rattle.connection.specs.Holding.{MovesUp, StaysThere, Takes, end_of, first_of, round_end}
+use Rattle.connection.specs.Holding.{IsNoted, Leaves, MovesUp, Notes, StaysThere, Takes, end_of, first_of, round_end}
 use Rattle.connection.specs.Rounds.{EndsRound, IsCall, IsLeft, IsMet, IsMetIn, LosesOldest, MeetsEverybody}
 
 if_below : (n m a b : ℕ) → n < m → (if nat_lt n m then a else b) ≡ a
@@ -21,6 +22,13 @@ if_not_below n m a b above = grind (arith, nat_tests)
 moved_up : {X : Type 0} → (x : X) (xs : List X) (place : ℕ) (d : X) → 0 < place → slice_index_or xs (place - 1) d ≡ slice_index_or (x ∷ xs) place d
 moved_up x xs zero d some = absurd (omega (arith, some))
 moved_up x xs (suc n) d some = ap (λ (k : ℕ). slice_index_or xs k d) (omega arith)
+
+-- one that a call left as it was
+as_it_was : {S : Type 0} → (old : Waiting S) (place : ℕ) (d : Held S) (new : Waiting S) (place_then : ℕ)
+    → slice_index_or new.connections.items place_then d ≡ slice_index_or old.connections.items place d
+    → (number : ℕ) × (now : Instant) × IsNoted number now
+    (slice_index_or old.connections.items place d) (slice_index_or new.connections.items place_then d)
+as_it_was old place d new place_then same = (0, d.accepted, inl same)
 
 module _ {S : Type 0} (remaining : S → Option (List ℕ)) (most : ℕ) where
   -- a connection whose turn in the round comes is met by a call, or left as it was
@@ -39,7 +47,8 @@ module _ {S : Type 0} (remaining : S → Option (List ℕ)) (most : ℕ) where
         (
           omega (arith, behind),
           omega (arith, room, until),
-          λ d. takes.takes.6 (place - 1) d (omega (arith, behind)) room ∙ ap (λ (n : ℕ). slice_index_or old.connections.items n d) here,
+          λ d. as_it_was old place d new (place - 1)
+              (takes.takes.6 (place - 1) d (omega (arith, behind)) room ∙ ap (λ (n : ℕ). slice_index_or old.connections.items n d) here),
         ),
       )
 
@@ -50,7 +59,7 @@ module _ {S : Type 0} (remaining : S → Option (List ℕ)) (most : ℕ) where
     | inr later ↦
         let room : place < length new.connections.items = omega (arith, below, bound, takes.takes.6) in
         let until : place < new.end = omega (arith, below, takes.end) in
-        inr (place, (later, omega (arith, room, until), λ d. takes.takes.5 place d (inr later)))
+        inr (place, (later, omega (arith, room, until), λ d. as_it_was old place d new place (takes.takes.5 place d (inr later))))
   ]
   taking place old new now (Some held) takes above below bound = elim (cases_lt place new.next) [
     | inl passed ↦ inl (inl (now, λ d. takes.takes.3 place d above passed))
@@ -73,10 +82,11 @@ module _ {S : Type 0} (remaining : S → Option (List ℕ)) (most : ℕ) where
         (
           omega (arith, above, moves.next),
           omega (arith, below, some, moves.end, there, is),
-          λ d. ap (λ (l : List (Held S)). slice_index_or l (place - 1) d) are
+          λ d. as_it_was old place d new (place - 1)
+              (ap (λ (l : List (Held S)). slice_index_or l (place - 1) d) are
               ∙ get_or_append_left others joined d (place - 1) there
               ∙ moved_up oldest others place d some
-              ∙ ap (λ (l : List (Held S)). slice_index_or l place d) (sym were),
+              ∙ ap (λ (l : List (Held S)). slice_index_or l place d) (sym were)),
         ),
       )
 
@@ -87,7 +97,7 @@ module _ {S : Type 0} (remaining : S → Option (List ℕ)) (most : ℕ) where
       | inl up ↦ behind_oldest place old new up.oldest new.connections.items [] up.were (sym (append-nil new.connections.items)) up.moves above below some
       | inr for ↦ behind_oldest place old new for.1.oldest for.1.others (for.0 ∷ []) for.1.were for.1.are for.1.moves above below some
     ]
-    | inr none ↦ inl (inr (inr (omega (arith, none), loses)))
+    | inr none ↦ inl (inr (inr (inl (omega (arith, none), loses))))
   ]
 
   -- one that stays where it is
@@ -101,10 +111,76 @@ module _ {S : Type 0} (remaining : S → Option (List ℕ)) (most : ℕ) where
         (
           omega (arith, above, stays.next),
           omega (arith, below, stays.end, is),
-          λ d. ap (λ (l : List (Held S)). slice_index_or l place d) are
-              ∙ get_or_append_left old.connections.items joined d place (omega (arith, below)),
+          λ d. as_it_was old place d new place
+              (ap (λ (l : List (Held S)). slice_index_or l place d) are
+              ∙ get_or_append_left old.connections.items joined d place (omega (arith, below))),
         ),
       )
+
+  -- one left, which isn't the oldest alone
+  leaving : (place : ℕ) (old new : Waiting S) (gone : ℕ) → Leaves gone old new → old.next ≤ place → place < round_end old
+      → IsMetOrLeft place old new
+  leaving place old new gone leaves above below =
+      let items : List (Held S) = old.connections.items in
+      let fewer : length new.connections.items + 1 ≡ length items = ap (λ (l : List (Held S)). length l + 1) leaves.are ∙ length-remove items gone leaves.there in
+      elim (cases_lt place gone) [
+        | inl earlier ↦
+            let next : new.next ≡ old.next = leaves.next ∙ if_not_below gone old.next (old.next - 1) old.next (omega (arith, above, earlier)) in
+            inr (
+              place,
+              (
+                omega (arith, above, next),
+                elim (cases_lt gone old.end) [
+                  | inl within ↦
+                      let end : new.end ≡ old.end - 1 = leaves.end ∙ if_below gone old.end (old.end - 1) old.end within in
+                      omega (arith, below, earlier, end, fewer, leaves.there, within)
+                  | inr without ↦
+                      let end : new.end ≡ old.end = leaves.end ∙ if_not_below gone old.end (old.end - 1) old.end without in
+                      omega (arith, below, earlier, end, fewer, leaves.there)
+                ],
+                λ d. as_it_was old place d new place
+                    (ap (λ (l : List (Held S)). slice_index_or l place d) leaves.are ∙ get_or-remove_below items gone d place earlier leaves.there),
+              ),
+            )
+        | inr later ↦ elim (cases_lt gone place) [
+          | inl behind ↦
+              let end : new.end ≡ old.end - 1 = leaves.end ∙ if_below gone old.end (old.end - 1) old.end (omega (arith, below, behind)) in
+              let here : (place - 1) + 1 ≡ place = omega (arith, behind) in
+              inr (
+                place - 1,
+                (
+                  elim (cases_lt gone old.next) [
+                    | inl passed ↦
+                        let next : new.next ≡ old.next - 1 = leaves.next ∙ if_below gone old.next (old.next - 1) old.next passed in
+                        omega (arith, above, behind, next)
+                    | inr coming ↦
+                        let next : new.next ≡ old.next = leaves.next ∙ if_not_below gone old.next (old.next - 1) old.next coming in
+                        omega (arith, coming, behind, next)
+                  ],
+                  omega (arith, below, behind, end, fewer),
+                  λ d. as_it_was old place d new (place - 1)
+                      (ap (λ (l : List (Held S)). slice_index_or l (place - 1) d) leaves.are
+                      ∙ get_or-remove_above items gone d (place - 1) (omega (arith, behind)) leaves.there
+                      ∙ ap (λ (n : ℕ). slice_index_or items n d) here),
+                ),
+              )
+          | inr same ↦
+              let here : gone ≡ place = omega (arith, later, same) in
+              inl (inr (inr (inr (subst (λ (n : ℕ). Leaves n old new) here leaves))))
+        ]
+      ]
+
+  -- something may have come on one of them
+  noting : (place : ℕ) (old new : Waiting S) (number : ℕ) (now : Instant) → Notes number now old new → old.next ≤ place
+      → place < round_end old → IsMetOrLeft place old new
+  noting place old new number now notes above below = inr (
+    place,
+    (
+      omega (arith, above, notes.stays.next),
+      omega (arith, below, notes.stays.end, notes.length),
+      λ d. (number, now, notes.noted place d),
+    ),
+  )
 
   calling : (place : ℕ) (old new : Waiting S) → IsCall remaining most old new → old.next ≤ place → place < round_end old
       → IsMetOrLeft place old new
@@ -118,7 +194,13 @@ module _ {S : Type 0} (remaining : S → Option (List ℕ)) (most : ℕ) where
       | inl loses ↦ losing place old new loses above below
       | inr rest ↦ elim rest [
         | inl holds ↦ staying place old new (holds.0 ∷ []) holds.1.are holds.1.stays above below
-        | inr kept ↦ staying place old new [] (kept.0 ∙ sym (append-nil old.connections.items)) kept.1 above below
+        | inr kept_or_noted ↦ elim kept_or_noted [
+          | inl noted ↦ noting place old new noted.0 noted.1 noted.2 above below
+          | inr kept_or_gone ↦ elim kept_or_gone [
+            | inl gone ↦ leaving place old new gone.0 gone.1 above below
+            | inr kept ↦ staying place old new [] (kept.0 ∙ sym (append-nil old.connections.items)) kept.1 above below
+          ]
+        ]
       ]
     ]
   ]

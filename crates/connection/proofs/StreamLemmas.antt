@@ -65,6 +65,17 @@ keeps_sent first old new all unsent sent count same keeps appends =
     keeps_trans first (with_unsent old unsent sent) (with_unsent new unsent (sent + count)) keeps
     (sent_more old new unsent sent count (subst (λ part. Appends old new (take count part)) (part_is all unsent sent same) appends))
 
+keeps_itself : (known : Option (List ℕ)) → Keeps known known
+keeps_itself None = tt
+keeps_itself (Some xs) = refl
+
+-- one write more
+pub keeps_part : (old new : Option (List ℕ)) (all unsent : List ℕ) (sent count : ℕ) → all ≡ unsent
+    → Appends old new (take count (take (length all - sent) (drop sent all)))
+    → Keeps (with_unsent old unsent sent) (with_unsent new unsent (sent + count))
+keeps_part old new all unsent sent count same appends =
+    keeps_sent (with_unsent old unsent sent) old new all unsent sent count same (keeps_itself (with_unsent old unsent sent)) appends
+
 -- all of them were sent if none was
 pub none_unsent : (unsent : List ℕ) → nat_le (length unsent) 0 ≡ true → unsent ≡ []
 none_unsent [] all = refl

@@ -6,6 +6,8 @@ use Rattle.http_text.specs.Forms.{IsRequestHead, request_form}
 use Rattle.http_text.specs.Heads.{HasNone, IsPartOfBody, IsUndecided, IsUnfinished}
 use Rattle.connection.specs.declared.readiness.Extent.{Extent}
 use Rattle.connection.specs.declared.readiness.Extent.TheVariants.{PartOfHead, Whole, Unknown}
+use Rattle.connection.specs.declared.lines.HeadLines.TheVariants.{Blank, Ended}
+use Rattle.connection.specs.Lines.{lines_after}
 
 -- the bytes begin with a whole head that isn't refused; with its body the request has this length
 pub record HasLength (bytes : List ℕ) (whole : ℕ) : Type 0 where
@@ -40,6 +42,11 @@ pub record IsPutOff (bytes : List ℕ) : Type 0 where
   pub few : (length bytes - count) * 8 ≤ count
   pub none : HasNone request_form bytes
   pub size : length bytes < head_limit
+
+-- Bytes of which `read` were read last are read again: as many came as a head may have, or an eighth more, or an empty
+-- line behind a first one
+abbrev pub IsDue : List ℕ → (read : ℕ) → Type 0
+IsDue bytes read = (head_limit ≤ length bytes) ⊎ (read < (length bytes - read) * 8) ⊎ (lines_after Blank bytes ≡ Ended)
 
 -- a request that isn't decided yet, or is put off
 abbrev pub Waits : List ℕ → Type 0

@@ -7,9 +7,11 @@ pub mod Requests
 pub mod Streams
 pub mod Accepting
 pub mod Limits
-pub mod Pacing
 pub mod Holding
 pub mod Rounds
+pub mod Lines
 pub mod Arriving
 pub mod Endings
 pub mod Turns
+pub mod Searches
+pub mod Descriptors

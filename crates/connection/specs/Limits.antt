@@ -5,10 +5,6 @@ use Rattle.std.specs.Prelude.{ℕ}
 abbrev pub granted : ℕ
 granted = 100_000_000
 
--- the longest time between two looks at a stream
-abbrev pub longest_pause : ℕ
-longest_pause = 256_000_000
-
 -- how long a peer may still send after it has its answer
 abbrev pub drain_time : ℕ
 drain_time = 2_000_000_000

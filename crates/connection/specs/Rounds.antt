@@ -5,14 +5,14 @@ use Rattle.std.specs.VecDeque.{deque_len}
 use Rattle.std.specs.declared.time.Instant.{Instant}
 use Rattle.connection.specs.declared.held.Held.{Held}
 use Rattle.connection.specs.declared.waiting.Waiting.{Waiting}
-use Rattle.connection.specs.Holding.{GivesUp, GivesUpFor, Holds, IsPassed, StaysThere, Takes, round_end}
+use Rattle.connection.specs.Holding.{GivesUp, GivesUpFor, Holds, IsNoted, IsPassed, Leaves, Notes, StaysThere, Takes, round_end}
 
 -- all connections of the round that is under way were passed, or have left
 abbrev pub IsRoundOver : {S : Type 0} → Waiting S → Type 0
 IsRoundOver waiting = round_end waiting ≤ waiting.next
 
 module _ {S : Type 0} (remaining : S → Option (List ℕ)) (most : ℕ) where
-  -- the oldest was given up, because it had to make room, or its memory was needed
+  -- the oldest was given up, because it had to make room
   abbrev pub LosesOldest : (old new : Waiting S) → Type 0
   LosesOldest old new = (now : Instant) × (GivesUp now old new ⊎ ((held : Held S) × GivesUpFor held now old new))
 
@@ -22,6 +22,8 @@ module _ {S : Type 0} (remaining : S → Option (List ℕ)) (most : ℕ) where
       ((now : Instant) × (taken : Option (Held S)) × (¬ (IsRoundOver old)) × Takes remaining now most old new taken)
       ⊎ LosesOldest old new
       ⊎ ((held : Held S) × Holds held old new)
+      ⊎ ((number : ℕ) × (now : Instant) × Notes number now old new)
+      ⊎ ((gone : ℕ) × Leaves gone old new)
       ⊎ ((new.connections.items ≡ old.connections.items) × StaysThere old new)
 
   -- calls from a moment within a round up to its end
@@ -36,14 +38,16 @@ module _ {S : Type 0} (remaining : S → Option (List ℕ)) (most : ℕ) where
       (slice_index_or old.connections.items place d) (slice_index_or new.connections.items place d)))
       ⊎ ((now : Instant) × (held : Held S) × (place ≡ new.next) × Takes remaining now most old new (Some held))
       ⊎ ((place ≡ 0) × LosesOldest old new)
+      ⊎ Leaves place old new
 
-  -- a call left the connection at this place as it was: it is at that place now, and its turn in the round comes
+  -- A call left the connection at this place as it was, or noted that something may have come on it: it is at that
+  -- place now, and its turn in the round comes
   abbrev pub IsLeft : (place place_then : ℕ) → (old new : Waiting S) → Type 0
   IsLeft place place_then old new = (new.next ≤ place_then) × (place_then < round_end new)
-      × ((d : Held S) →
-      slice_index_or new.connections.items place_then d ≡ slice_index_or old.connections.items place d)
+      × ((d : Held S) → (number : ℕ) × (now : Instant) × IsNoted number now
+      (slice_index_or old.connections.items place d) (slice_index_or new.connections.items place_then d))
 
-  -- one of the calls met the connection at this place, and those before it left it as it was
+  -- one of the calls met the connection at this place, and those before it left it
   abbrev pub IsMetIn : (place : ℕ) → (old : Waiting S) → (later : List (Waiting S)) → Type 0
   IsMetIn place old [] = ⊥
   IsMetIn place old (new ∷ later) =

@@ -1,5 +1,5 @@
 -- What one connection does: what it writes, and how the rows change.
-use Rattle.std.specs.Prelude.{◌≡◌, ℕ, ◌⊎◌, Bool, List, [], Option, Some, None, Result, Ok, Err, IfOk, IfErr, OnOk}
+use Rattle.std.specs.Prelude.{◌≡◌, ℕ, ◌⊎◌, Bool, true, List, [], Option, Some, None, Result, Ok, Err, IfOk, IfErr, OnOk}
 use Rattle.std.specs.Io.KnownBytes.{Appends}
 use Rattle.std.specs.Str.{IsUtf8}
 use Rattle.scim_resource.specs.Rows.{StoredRecord}
@@ -132,6 +132,11 @@ pub record IsUnharmed {R : Type 0} (g : Ghosts R) (old new : R) : Type 0 where
 -- no fault of the store was counted, or the fixed text was sent
 abbrev pub AnswersFaults : {R : Type 0} → Ghosts R → (old new : R) → (before after : Writing) → Served → Type 0
 AnswersFaults g old new before after served = IsUnharmed g old new
+    ⊎ Sends before after (λ reply. reply ≡ fixed_reply) served
+
+-- if a search was stopped, the fixed text was sent: whether the last one was stopped is `stopped` and `stops`
+abbrev pub AnswersStop : (stopped stops : Bool) → (before after : Writing) → Served → Type 0
+AnswersStop stopped stops before after served = stops ≡ true → (stopped ≡ true)
     ⊎ Sends before after (λ reply. reply ≡ fixed_reply) served
 
 -- what was read, as the reader of requests reports it

@@ -1,6 +1,7 @@
 //! One connection.
 ghost use Rattle.std.specs.Prelude.{◌≡◌, ◌≤◌, ◌+◌, Result, IfOk, OnErr, OnOk, Some};
-ghost use Rattle.provider_core.specs.Stores.{IsQuiet, CountsFaults, CountsProviderFault};
+ghost use Rattle.provider_core.specs.Stores.{IsQuiet, CountsFaults};
+ghost use Rattle.provider_core.specs.Stops.{CountsSearchFault, StopsIf};
 ghost use Rattle.provider_core.specs.Outcomes.{outcome, changed_rows};
 ghost use Rattle.provider_core.specs.Calls.{Writes};
 ghost use Rattle.http_text.specs.Counts.{CountsTurns};
@@ -15,6 +16,7 @@ use crate::reactions::{Reaction, reaction_to};
 use http_text::{Incoming, Input, Output, ReadFault, is_head, read_request, send};
 use provider_core::{
     Answer, ErrorResponse, Meanwhile, Nothing, Provider, ProviderFault, Registry, Request,
+    SearchFault,
 };
 use scim_http::{MeaningFault, Reply, fixed_response, meaning};
 use scim_key::Base;
@@ -68,8 +70,8 @@ pub fn serve<R: Registry, I: Read, O: Write>(
     serve_meanwhile(alloc, provider, base, reader, writer, &mut Nothing)
 }
 
-/// Serves as `serve` does. If the request asks for a look through all rows, something else goes on after each page
-/// of rows.
+/// Serves as `serve` does. If the request asks for a look through all rows, somebody else goes on after each page of
+/// rows. If he stops it, the fixed response is sent.
 pub(crate) fn serve_meanwhile<R: Registry, I: Read, O: Write, M: Meanwhile>(
     alloc: Global,
     provider: &mut Provider<R>,
@@ -93,6 +95,8 @@ pub(crate) fn serve_meanwhile<R: Registry, I: Read, O: Write, M: Meanwhile>(
     ensures writes { R.writes provider.new ≤ R.writes provider.old + 1 }
     ensures turns { CountsTurns writer.old.calls writer.new.calls }
     ensures keeps { M.keeps meanwhile.old meanwhile.new }
+    ensures stops { spec.AnswersStop (M.stops meanwhile.old) (M.stops meanwhile.new)
+        writer.old writer.new result }
 {
     match read_request(alloc, reader) {
         Ok(incoming) => serve_message(alloc, provider, base, &incoming, writer, meanwhile),
@@ -121,6 +125,8 @@ fn serve_message<R: Registry, O: Write, M: Meanwhile>(
     ensures writes { R.writes provider.new ≤ R.writes provider.old + 1 }
     ensures turns { CountsTurns writer.old.calls writer.new.calls }
     ensures keeps { M.keeps meanwhile.old meanwhile.new }
+    ensures stops { spec.AnswersStop (M.stops meanwhile.old) (M.stops meanwhile.new)
+        writer.old writer.new result }
 {
     match reply_to(alloc, provider, base, incoming, meanwhile) {
         Ok(reply) => sent(writer, reply.status(), reply.text()),
@@ -174,7 +180,7 @@ fn reply_to<R: Registry, M: Meanwhile>(
     base: &Base,
     incoming: &Incoming,
     meanwhile: &mut M,
-) -> Result<Reply, ProviderFault>
+) -> Result<Reply, SearchFault>
     ensures reply { IfOk result (spec.AnswersMessage (R.is_faithful provider.new) base.now
         (R.rows provider.old) (R.rows provider.new) incoming.now) }
     ensures same { R.is_faithful provider.new
@@ -184,9 +190,10 @@ fn reply_to<R: Registry, M: Meanwhile>(
         OnOk result (R.is_faithful provider.new) }
     ensures quiet { IsQuiet R.is_faithful R.faults provider.old provider.new }
     ensures writes { R.writes provider.new ≤ R.writes provider.old + 1 }
-    ensures counted { CountsFaults CountsProviderFault
+    ensures counted { CountsFaults CountsSearchFault
         (R.faults provider.old) (R.faults provider.new) result }
     ensures keeps { M.keeps meanwhile.old meanwhile.new }
+    ensures stops { StopsIf (M.stops meanwhile.old) (M.stops meanwhile.new) result }
 {
     let leaves_body_out = is_head(incoming);
     match meaning(alloc, incoming) {
@@ -197,7 +204,7 @@ fn reply_to<R: Registry, M: Meanwhile>(
             refusal,
             leaves_body_out,
         )?),
-        Err(MeaningFault::OutOfMemory) => Err(ProviderFault::Memory),
+        Err(MeaningFault::OutOfMemory) => Err(SearchFault::Provider(ProviderFault::Memory)),
     }
 }
 
@@ -209,14 +216,15 @@ fn carry_out<R: Registry, M: Meanwhile>(
     request: Request,
     leaves_body_out: bool,
     meanwhile: &mut M,
-) -> Result<Reply, ProviderFault>
+) -> Result<Reply, SearchFault>
     ensures reply { IfOk result (spec.AnswersRequest (R.is_faithful provider.new) base.now
         (R.rows provider.old) (R.rows provider.new) leaves_body_out request) }
-    ensures writes { Writes R.Registry CountsProviderFault provider.old provider.new
+    ensures writes { Writes R.Registry CountsSearchFault provider.old provider.new
         (changed_rows (R.rows provider.old) (outcome (R.rows provider.old) request).change)
         result }
     ensures open { R.is_honest provider.new → OnOk result (R.is_faithful provider.new) }
     ensures keeps { M.keeps meanwhile.old meanwhile.new }
+    ensures stops { StopsIf (M.stops meanwhile.old) (M.stops meanwhile.new) result }
 {
     let pending = provider.prepare_meanwhile(alloc, request, meanwhile)?;
     let reply = Reply::of(alloc, pending.answer(), base, leaves_body_out)?;

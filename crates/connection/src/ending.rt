@@ -1,43 +1,49 @@
 //! A connection that was served, up to its end.
-ghost use Rattle.std.specs.Prelude.{◌≡◌, ◌≤◌, [], true, vec_capacity, OnOk};
+ghost use Rattle.std.specs.Prelude.{◌≡◌, ◌<◌, [], false, true, vec_capacity, OnOk};
 ghost use Rattle.std.specs.Io.KnownBytes.{Keeps};
-ghost use Rattle.connection.specs.Endings.{BeginsWith, is_sent};
+ghost use Rattle.connection.specs.Endings.{BeginsWith, IsStill, MovesOn, is_sent, rate};
 ghost use Rattle.connection.specs.Streams.{with_unsent};
 
 use crate::late::LateWriter;
-use crate::limits::drain_time;
-use crate::pace::next_look;
+use crate::limits::{drain_time, granted};
+use crate::watch::Watch;
 use std::io;
 use std::io::{ErrorKind, Read, Write};
 use std::net::OpenStream;
+use std::os::fd::RawFd;
 use std::time::{Clock, Instant};
 use timed_streams::PromptStream;
 
-/// The most bytes that one read discards, and the most reads of one look.
-const DRAIN_READ: usize = 2_048;
-
-const DRAIN_READS: u32 = 32;
+/// The most bytes that one look discards.
+const DRAIN_READ: usize = 16_384;
 
 /// A connection that was served. The rest of its answer is sent as its peer takes it. Then what the peer
 /// still sends is discarded for a while: closing a stream while its peer sends resets it, and the peer may
 /// lose its answer.
 #[derive(Drop)]
 pub(crate) struct Ending<'a, S: Drop, C> {
+    /// The number of the connection, and that of its descriptor.
+    number: usize,
+    descriptor: RawFd,
     stream: PromptStream<'a, S, C>,
     unsent: Vec<u8>,
     /// How many of the unsent bytes were sent since.
     sent: usize,
-    /// When something moved last.
-    moved: Instant,
-    /// When to look again.
+    /// When it was kept.
+    began: Instant,
+    /// When its time is over.
+    end: Instant,
+    /// When to look again: once something may have come or be taken, or its time is over.
     next: Instant,
 }
 
 /// What a look at an ending found.
 #[derive(Clone, Copy)]
 pub(crate) enum Step {
-    /// Nothing moved.
+    /// Nothing moves now.
     Waits,
+    /// The call was interrupted, and is made again.
+    Interrupted,
     /// Something moved, and more may come.
     Moves,
     /// The connection can be closed.
@@ -49,12 +55,21 @@ impl<'a, S: Read + Write + OpenStream + Drop, C: Clock> Ending<'a, S, C> {
     pub(crate) fn new(writer: LateWriter<PromptStream<'a, S, C>>, now: Instant) -> Self
         ensures { BeginsWith writer.entry.unsent.items result }
     {
-        let LateWriter { writer, unsent } = writer;
+        let LateWriter {
+            number,
+            descriptor,
+            end,
+            writer,
+            unsent,
+        } = writer;
         let mut ending = Ending {
+            number,
+            descriptor,
             stream: writer,
             unsent,
             sent: 0,
-            moved: now,
+            began: now,
+            end,
             next: now,
         };
         if ending.is_sent() {
@@ -70,9 +85,21 @@ impl<'a, S: Read + Write + OpenStream + Drop, C: Clock> Ending<'a, S, C> {
         self.sent >= self.unsent.len()
     }
 
-    /// When something moved last.
-    pub(crate) fn moved(&self) -> Instant {
-        self.moved
+    /// When its time is over.
+    pub(crate) fn end(&self) -> Instant {
+        self.end
+    }
+
+    /// How many bytes a second its peer has taken of the answer since it was kept. Whose answer was sent, and whose was
+    /// kept a moment ago, counts as the quickest.
+    pub(crate) fn rate(&self, now: Instant) -> u128
+        ensures { result ≡ rate now self.now }
+    {
+        let age = now.duration_since(self.began);
+        if self.is_sent() || age < granted() {
+            return u128::MAX;
+        }
+        self.sent as u128 * 1_000 / age.as_millis()
     }
 
     /// How many bytes of memory are taken for the peer: none once its answer is sent.
@@ -82,51 +109,79 @@ impl<'a, S: Read + Write + OpenStream + Drop, C: Clock> Ending<'a, S, C> {
         self.unsent.capacity()
     }
 
-    /// Goes on, if it is time to look, and doesn't wait.
-    pub(crate) fn go_on(&mut self, now: Instant) -> Step {
-        if now < self.next {
-            return Step::Waits;
-        }
+    /// The number of the connection.
+    pub(crate) fn number(&self) -> usize {
+        self.number
+    }
+
+    /// When to look at it, if nothing comes before.
+    pub(crate) fn next(&self) -> Instant {
+        self.next
+    }
+
+    /// Notes that something may have come, or that the peer takes more.
+    pub(crate) fn note(&mut self, now: Instant) {
+        self.next = now;
+    }
+
+    /// Looks once, and doesn't wait: sends or discards what is there. If something moved, more may move at once.
+    pub(crate) fn go_on(&mut self, watch: &Watch, now: Instant) -> Step
+        ensures { MovesOn self.old self.new result }
+    {
         let step = self.send_or_drain(now);
-        if let Step::Moves = step {
-            self.moved = now;
+        if let Step::Waits = step {
+            self.rest(watch);
         }
-        self.next = next_look(self.moved, now);
         step
     }
 
-    fn send_or_drain(&mut self, now: Instant) -> Step {
+    /// Puts the next look off until something comes, or the peer takes more, or the time is over.
+    fn rest(&mut self, watch: &Watch)
+        ensures sent { self.new.sent ≡ self.old.sent }
+        ensures unsent { self.new.unsent ≡ self.old.unsent }
+    {
+        let is_asked = if self.is_sent() {
+            watch.ask_for_bytes(self.descriptor, self.number)
+        } else {
+            watch.ask_for_room(self.descriptor, self.number)
+        };
+        if is_asked.is_ok() {
+            self.next = self.end;
+        }
+    }
+
+    fn send_or_drain(&mut self, now: Instant) -> Step
+        ensures { MovesOn self.old self.new result }
+    {
         if self.is_sent() {
             return self.drain();
         }
-        let sent = self.sent;
         match self.send() {
             Ok(()) => {
-                self.shut_down(now);
+                if self.is_sent() {
+                    self.shut_down(now);
+                }
                 Step::Moves
             }
-            Err(error) => match error.kind() {
-                ErrorKind::WouldBlock | ErrorKind::Interrupted if self.sent > sent => Step::Moves,
-                ErrorKind::WouldBlock | ErrorKind::Interrupted => Step::Waits,
-                _ => Step::Over,
-            },
+            Err(error) => step_after(&error),
         }
     }
 
     /// Sends what the peer takes now of the answer.
     fn send(&mut self) -> io::Result<()>
-        ensures sent { OnOk result (is_sent self.new ≡ true) }
+        requires { is_sent self.old ≡ false }
+        ensures sent { OnOk result (self.old.sent < self.new.sent) }
         ensures bytes { Keeps
             (with_unsent (S.contents self.old.stream.stream) self.old.unsent.items self.old.sent)
             (with_unsent (S.contents self.new.stream.stream) self.new.unsent.items self.new.sent) }
     {
-        while self.sent < self.unsent.len() {
-            match self.stream.write(&self.unsent[self.sent..])? {
-                0 => return Err(io::Error::from(ErrorKind::WriteZero)),
-                count => self.sent += count,
+        match self.stream.write(&self.unsent[self.sent..])? {
+            0 => Err(io::Error::from(ErrorKind::WriteZero)),
+            count => {
+                self.sent += count;
+                Ok(())
             }
         }
-        Ok(())
     }
 
     /// Frees the answer, which is sent, and lets the peer see its end. The peer has a while to send what it still
@@ -142,6 +197,7 @@ impl<'a, S: Read + Write + OpenStream + Drop, C: Clock> Ending<'a, S, C> {
         self.sent = 0;
         self.stream.shut_down();
         if let Some(end) = now.checked_add(drain_time()) {
+            self.end = self.end.min(end);
             self.stream.end_by(end);
         }
     }
@@ -149,17 +205,21 @@ impl<'a, S: Read + Write + OpenStream + Drop, C: Clock> Ending<'a, S, C> {
     /// Discards what has come.
     fn drain(&mut self) -> Step {
         let mut buffer = [0; DRAIN_READ];
-        let mut step = Step::Waits;
-        for _ in 0..DRAIN_READS {
-            match self.stream.read(&mut buffer) {
-                Ok(0) => return Step::Over,
-                Ok(_) => step = Step::Moves,
-                Err(error) => match error.kind() {
-                    ErrorKind::WouldBlock | ErrorKind::Interrupted => return step,
-                    _ => return Step::Over,
-                },
-            }
+        match self.stream.read(&mut buffer) {
+            Ok(0) => Step::Over,
+            Ok(_) => Step::Moves,
+            Err(error) => step_after(&error),
         }
-        step
+    }
+}
+
+/// What a failed read or write means: nothing moves now, or no more can.
+fn step_after(error: &io::Error) -> Step
+    ensures { IsStill result }
+{
+    match error.kind() {
+        ErrorKind::WouldBlock => Step::Waits,
+        ErrorKind::Interrupted => Step::Interrupted,
+        _ => Step::Over,
     }
 }

@@ -1,41 +1,26 @@
 //! All connections that were served and aren't closed yet.
 ghost use Rattle.std.specs.Prelude.{◌≡◌, ◌<◌, ◌≤◌, ◌+◌, ◌-◌, ◌↔◌, [], vec_len, IsTrue, IfSome};
 ghost use Rattle.std.specs.List.{remove, slice_index_or};
-ghost use Rattle.connection.specs.Endings.{lost_with};
+ghost use Rattle.connection.specs.Endings.{IsSlowest, lost_with, rate};
 
 use crate::ending::{Ending, Step};
-use crate::limits::{MOST_ENDINGS, MOST_UNSENT, ending_pause, longest_turn};
+use crate::limits::{MOST_ENDINGS, MOST_LOOKS, MOST_UNSENT, longest_work};
+use crate::watch::Watch;
 use std::alloc::Global;
 use std::io::{Read, Write};
 use std::net::OpenStream;
-use std::thread;
 use std::time::{Clock, Instant};
 
-/// The most looks at all endings once no more connections are accepted.
-const MOST_TURNS: u32 = 1_000_000;
-
-/// The endings of connections, in the order in which they were served. Dropping them waits for them.
+/// The endings of connections, in the order of their numbers.
+#[derive(Drop)]
 pub(crate) struct Endings<'a, S: Read + Write + OpenStream + Drop, C: Clock> {
     endings: Vec<Ending<'a, S, C>>,
     clock: &'a C,
-    /// When all of them were looked at last.
-    looked: Option<Instant>,
+    /// The place of the one that is looked at next.
+    next: usize,
     /// How many answers were lost, and how many of these were asked for.
     lost: u32,
     told: u32,
-}
-
-impl<'a, S: Read + Write + OpenStream + Drop, C: Clock> Drop for Endings<'a, S, C> {
-    fn drop(mut self) {
-        self.finish();
-        let Endings {
-            endings: _,
-            clock: _,
-            looked: _,
-            lost: _,
-            told: _,
-        } = self;
-    }
 }
 
 impl<'a, S: Read + Write + OpenStream + Drop, C: Clock> Endings<'a, S, C> {
@@ -45,27 +30,44 @@ impl<'a, S: Read + Write + OpenStream + Drop, C: Clock> Endings<'a, S, C> {
         Endings {
             endings: Vec::new(alloc),
             clock,
-            looked: None,
+            next: 0,
             lost: 0,
             told: 0,
         }
     }
 
-    pub(crate) fn is_empty(&self) -> bool
-        ensures { IsTrue result ↔ (vec_len self.now.endings ≡ 0) }
+    /// How many there are.
+    pub(crate) fn len(&self) -> usize
+        ensures { result ≡ vec_len self.now.endings }
     {
-        self.endings.is_empty()
+        self.endings.len()
     }
 
-    /// Whether it is time to look at all of them, even if connections wait.
-    pub(crate) fn are_due(&self, now: Instant) -> bool {
-        match self.looked {
-            Some(looked) => now.duration_since(looked) >= longest_turn(),
-            None => true,
+    /// When it is time to look at one of them, if there are any and nothing comes before.
+    pub(crate) fn next_time(&self) -> Option<Instant> {
+        self.endings.iter().map(|ending| ending.next()).min()
+    }
+
+    /// Notes that something may have come on the connection with this number, or that it takes more.
+    pub(crate) fn note(&mut self, number: usize, now: Instant)
+        ensures { vec_len self.new.endings ≡ vec_len self.old.endings }
+    {
+        let place = self.place_of(number);
+        match self.endings.get_mut(place) {
+            Some(ending) if ending.number() == number => ending.note(now),
+            _ => {}
         }
     }
 
-    /// Keeps an ending. If there are too many, the one on which nothing moved for the longest is closed.
+    /// The place of the connection with this number, or where it would be.
+    fn place_of(&self, number: usize) -> usize
+        ensures { result ≤ vec_len self.now.endings }
+    {
+        self.endings
+            .partition_point(|ending| ending.number() < number)
+    }
+
+    /// Keeps an ending. If there are too many, one is closed.
     pub(crate) fn keep(&mut self, ending: Ending<'a, S, C>, now: Instant)
         ensures { vec_len self.old.endings ≤ MOST_ENDINGS
             → vec_len self.new.endings ≤ MOST_ENDINGS }
@@ -74,39 +76,36 @@ impl<'a, S: Read + Write + OpenStream + Drop, C: Clock> Endings<'a, S, C> {
             self.make_room(ending.size(), now);
         }
         if self.endings.len() >= MOST_ENDINGS {
-            self.close_one(now);
+            let place = match self.drained() {
+                Some(place) => place,
+                None => self.slowest(now),
+            };
+            self.close(place);
         }
         let is_sent = ending.is_sent();
-        if self.endings.push(ending).is_err() && !is_sent {
+        let place = self.place_of(ending.number());
+        if self.endings.insert(place, ending).is_err() && !is_sent {
             self.lost = self.lost.saturating_add(1);
         }
     }
 
-    /// Closes connections whose peers don't take their answers, until there is room for one of this size.
+    /// Closes connections whose peers take their answers most slowly, until there is room for one of this size.
     fn make_room(&mut self, size: usize, now: Instant)
         ensures { vec_len self.new.endings ≤ vec_len self.old.endings }
     {
-        for _ in 0..MOST_ENDINGS {
+        for _ in 0..self.endings.len() {
             if self.unsent().saturating_add(size) <= MOST_UNSENT {
                 return;
             }
-            match self.stillest(false, now) {
-                Some(place) => self.close(place),
-                None => return,
+            if self.endings.is_empty() {
+                return;
             }
+            let place = self.slowest(now);
+            if self.endings[place].is_sent() {
+                return;
+            }
+            self.close(place);
         }
-    }
-
-    /// Closes one connection, rather one whose answer was sent.
-    fn close_one(&mut self, now: Instant)
-        requires { 0 < vec_len self.old.endings }
-        ensures { vec_len self.new.endings + 1 ≡ vec_len self.old.endings }
-    {
-        let place = match self.stillest(true, now) {
-            Some(place) => place,
-            None => self.stillest(false, now).unwrap_or(0),
-        };
-        self.close(place);
     }
 
     /// How many bytes are kept for slow peers.
@@ -118,21 +117,42 @@ impl<'a, S: Read + Write + OpenStream + Drop, C: Clock> Endings<'a, S, C> {
         unsent
     }
 
-    /// The place of the ending on which nothing moved for the longest, among those whose answer was sent, or
-    /// wasn't.
-    fn stillest(&self, is_sent: bool, now: Instant) -> Option<usize>
+    /// The place of the connection that is drained for the longest, if there is one.
+    fn drained(&self) -> Option<usize>
         ensures { IfSome result (λ place. place < vec_len self.now.endings) }
     {
         let mut found = None;
-        let mut longest = now;
+        let mut first: Option<Instant> = None;
         for place in 0..self.endings.len() {
             let ending = &self.endings[place];
-            if ending.is_sent() == is_sent && ending.moved() <= longest {
-                longest = ending.moved();
+            if ending.is_sent() && first.is_none_or(|end| ending.end() < end) {
+                first = Some(ending.end());
                 found = Some(place);
             }
         }
         found
+    }
+
+    /// The place of the connection whose peer takes its answer most slowly, and of several the oldest.
+    fn slowest(&self, now: Instant) -> usize
+        requires { 0 < vec_len self.now.endings }
+        ensures { IsSlowest now self.now.endings.items result }
+    {
+        let mut found = 0;
+        for place in 1..self.endings.len() {
+            if self.rate_at(place, now) < self.rate_at(found, now) {
+                found = place;
+            }
+        }
+        found
+    }
+
+    /// How many bytes a second the peer of the one at a place has taken.
+    fn rate_at(&self, place: usize, now: Instant) -> u128
+        requires { place < vec_len self.now.endings }
+        ensures { (d : _) → result ≡ rate now (slice_index_or self.now.endings.items place d) }
+    {
+        self.endings[place].rate(now)
     }
 
     /// Closes a connection, and notes if its answer wasn't sent whole.
@@ -150,35 +170,58 @@ impl<'a, S: Read + Write + OpenStream + Drop, C: Clock> Endings<'a, S, C> {
         }
     }
 
-    /// Looks at all of them, and closes those that are over. It returns whether anything moved.
-    pub(crate) fn go_on(&mut self, now: Instant) -> bool
+    /// Goes on with those that it is time to look at, each once at most, and closes those that are over. It stops
+    /// after some looks, or some time, and goes on from there in the next call.
+    pub(crate) fn go_on(&mut self, watch: &Watch, now: Instant)
         ensures { vec_len self.new.endings ≤ vec_len self.old.endings }
     {
-        self.looked = Some(now);
-        let mut has_moved = false;
-        let mut place = 0;
-        while place < self.endings.len() {
-            match self.step_at(place, now) {
-                Step::Waits => place += 1,
-                Step::Moves => {
-                    has_moved = true;
-                    place += 1;
-                }
-                Step::Over => {
-                    has_moved = true;
-                    self.close(place);
-                }
+        let mut looks = 0;
+        for _ in 0..self.endings.len() {
+            if self.next >= self.endings.len() {
+                self.next = 0;
             }
+            match self.endings.get(self.next) {
+                Some(ending) if ending.next() <= now => {}
+                Some(_) => {
+                    self.next += 1;
+                    continue;
+                }
+                None => return,
+            }
+            if looks == MOST_LOOKS || self.has_worked_since(now) {
+                return;
+            }
+            looks += 1;
+            self.look(watch, now);
         }
-        has_moved
+    }
+
+    /// Whether this call has taken as long as it may.
+    fn has_worked_since(&self, began: Instant) -> bool {
+        match Instant::now(self.clock) {
+            Ok(now) => now.duration_since(began) >= longest_work(),
+            Err(_) => true,
+        }
+    }
+
+    /// Looks at the next one, and closes it if it is over.
+    fn look(&mut self, watch: &Watch, now: Instant)
+        requires { self.old.next < vec_len self.old.endings }
+        ensures { vec_len self.new.endings ≤ vec_len self.old.endings }
+    {
+        match self.step_at(self.next, watch, now) {
+            Step::Waits | Step::Interrupted | Step::Moves => self.next += 1,
+            Step::Over => self.close(self.next),
+        }
     }
 
     /// Looks at one of them.
-    fn step_at(&mut self, place: usize, now: Instant) -> Step
+    fn step_at(&mut self, place: usize, watch: &Watch, now: Instant) -> Step
         requires { place < vec_len self.old.endings }
-        ensures { vec_len self.new.endings ≡ vec_len self.old.endings }
+        ensures length { vec_len self.new.endings ≡ vec_len self.old.endings }
+        ensures next { self.new.next ≡ self.old.next }
     {
-        self.endings[place].go_on(now)
+        self.endings[place].go_on(watch, now)
     }
 
     /// Whether an answer was lost.
@@ -196,21 +239,5 @@ impl<'a, S: Read + Write + OpenStream + Drop, C: Clock> Endings<'a, S, C> {
         let untold = self.lost.saturating_sub(self.told);
         self.told = self.lost;
         untold
-    }
-
-    /// Waits until all of them are over. Each has its deadline.
-    pub(crate) fn finish(&mut self) {
-        for _ in 0..MOST_TURNS {
-            let Ok(now) = Instant::now(self.clock) else {
-                return;
-            };
-            let has_moved = self.go_on(now);
-            if self.endings.is_empty() {
-                return;
-            }
-            if !has_moved {
-                thread::sleep(self.clock, ending_pause());
-            }
-        }
     }
 }

@@ -1,15 +1,21 @@
 //! Connections whose requests aren't whole yet.
-ghost use Rattle.std.specs.Prelude.{◌≡◌, []};
+ghost use Rattle.std.specs.Prelude.{◌≡◌, [], IfOk};
 ghost use Rattle.std.specs.Io.KnownBytes.{Keeps, prepend_known};
-ghost use Rattle.connection.specs.Holding.{HasCome, Looks, is_time};
+ghost use Rattle.connection.specs.Holding.{HasCome, IsLookedAtBy, IsSame, Looks, is_time, size_of};
 
-use crate::pace::next_look;
+use crate::ahead::AheadReader;
+use crate::late::LateWriter;
 use crate::received::Received;
+use crate::searches::is_search;
+use crate::watch::Watch;
 use http_text::{BODY_LIMIT, HEAD_LIMIT};
 use std::alloc::Global;
-use std::io::{ErrorKind, Read};
-use std::time::Instant;
-use timed_streams::Deadline;
+use std::io;
+use std::io::{ErrorKind, Read, Write};
+use std::net::{IpAddr, OpenStream};
+use std::os::fd::AsRawFd;
+use std::time::{Clock, Instant};
+use timed_streams::{Deadline, PromptStream, SharedStream};
 
 /// The most bytes that a request has.
 const MOST_BYTES: usize = HEAD_LIMIT + BODY_LIMIT as usize;
@@ -23,13 +29,20 @@ const MOST_READS: u32 = 24;
 /// A connection, and what its peer has sent so far.
 #[derive(Drop)]
 pub(crate) struct Held<S: Drop> {
-    pub(crate) stream: S,
-    pub(crate) deadline: Deadline,
+    /// Its place among all that were ever accepted.
+    number: usize,
+    /// The address of its client.
+    peer: IpAddr,
+    stream: S,
+    deadline: Deadline,
     /// When it was accepted.
-    pub(crate) accepted: Instant,
-    /// When to look at it again: the older the connection, the later, whether anything comes or not.
-    pub(crate) next: Instant,
-    pub(crate) received: Received,
+    accepted: Instant,
+    /// When to look at it again: once something may have come on it, or its time is over.
+    next: Instant,
+    /// What came on its stream. Nothing outside of this file takes it away, or adds to it.
+    received: Received,
+    /// Whether no request comes any more: its time is over, or its stream failed, or ended before anything came.
+    is_gone: bool,
 }
 
 /// What a look at a connection found.
@@ -43,9 +56,17 @@ pub(crate) enum Arrival {
     Last,
 }
 
-impl<S: Read + Drop> Held<S> {
+impl<S: Read + AsRawFd + Drop> Held<S> {
     /// A connection that was accepted now.
-    pub(crate) fn new(alloc: Global, stream: S, deadline: Deadline, now: Instant) -> Self
+    pub(crate) fn new(
+        alloc: Global,
+        number: usize,
+        peer: IpAddr,
+        stream: S,
+        deadline: Deadline,
+        now: Instant,
+    ) -> Self
+        ensures number { result.number ≡ number }
         ensures stream { result.stream ≡ stream }
         ensures deadline { result.deadline ≡ deadline }
         ensures accepted { result.accepted ≡ now }
@@ -53,12 +74,80 @@ impl<S: Read + Drop> Held<S> {
         ensures received { result.received.bytes.items ≡ [] }
     {
         Held {
+            number,
+            peer,
             stream,
             deadline,
             accepted: now,
             next: now,
             received: Received::new(alloc),
+            is_gone: false,
         }
+    }
+
+    pub(crate) fn number(&self) -> usize
+        ensures { result ≡ self.now.number }
+    {
+        self.number
+    }
+
+    /// The address of its client.
+    pub(crate) fn peer(&self) -> IpAddr
+        ensures { result ≡ self.now.peer }
+    {
+        self.peer
+    }
+
+    /// Whether all rows are read for its request.
+    pub(crate) fn is_search(&self, alloc: Global) -> bool {
+        is_search(alloc, &self.received.bytes)
+    }
+
+    /// Whether its time is over.
+    pub(crate) fn is_over(&self, now: Instant) -> bool {
+        self.deadline.left_at(now).is_none()
+    }
+
+    pub(crate) fn accepted(&self) -> Instant
+        ensures { result ≡ self.now.accepted }
+    {
+        self.accepted
+    }
+
+    pub(crate) fn next(&self) -> Instant
+        ensures { result ≡ self.now.next }
+    {
+        self.next
+    }
+
+    /// Whether no request comes any more.
+    pub(crate) fn is_gone(&self) -> bool
+        ensures { result ≡ self.now.is_gone }
+    {
+        self.is_gone
+    }
+
+    /// How many bytes of memory its request takes.
+    pub(crate) fn size(&self) -> usize
+        ensures { result ≡ size_of self.now }
+    {
+        self.received.size()
+    }
+
+    /// Frees the memory that its request doesn't need.
+    pub(crate) fn shrink(&mut self)
+        ensures number { self.new.number ≡ self.old.number }
+        ensures peer { self.new.peer ≡ self.old.peer }
+        ensures bytes { self.new.received.bytes.items ≡ self.old.received.bytes.items }
+    {
+        self.received.shrink();
+    }
+
+    /// Notes that something may have come on it, so that it is time to look at it.
+    pub(crate) fn note(&mut self, now: Instant)
+        ensures { self.new ≡ record self.old { next = now } }
+    {
+        self.next = now;
     }
 
     /// Whether it is time to look at the connection.
@@ -70,31 +159,31 @@ impl<S: Read + Drop> Held<S> {
 
     /// Whether the connection can be served: its request is whole or refused, no more comes, or its time is
     /// over. It looks now, and doesn't wait.
-    pub(crate) fn is_ready(&mut self, alloc: Global, now: Instant) -> bool
-        ensures { Looks S.remaining now self.old self.new result }
+    pub(crate) fn is_ready(&mut self, watch: &Watch, alloc: Global, now: Instant) -> bool
+        ensures { Looks S.remaining self.old self.new result }
     {
         if self.deadline.left_at(now).is_none() {
+            self.is_gone = true;
             return true;
         }
-        if let Arrival::Last = self.receive(alloc) {
+        if let Arrival::Last = self.receive(watch, alloc) {
             return true;
         }
         self.received.shrink();
-        self.next = next_look(self.accepted, now);
         false
     }
 
     /// Takes what has come, up to a whole request.
-    fn receive(&mut self, alloc: Global) -> Arrival
+    fn receive(&mut self, watch: &Watch, alloc: Global) -> Arrival
         ensures bytes { Keeps (prepend_known self.old.received.bytes.items (S.remaining self.old.stream))
             (prepend_known self.new.received.bytes.items (S.remaining self.new.stream)) }
-        ensures deadline { self.new.deadline ≡ self.old.deadline }
-        ensures accepted { self.new.accepted ≡ self.old.accepted }
+        ensures same { IsSame self.old self.new }
+        ensures next { IsLookedAtBy self.old self.new }
         ensures come { HasCome self.old.received self.new.received result }
     {
         let mut arrival = Arrival::Nothing;
         for _ in 0..MOST_READS {
-            match self.read_once(alloc) {
+            match self.read_once(watch, alloc) {
                 Arrival::Bytes => arrival = Arrival::Bytes,
                 Arrival::Nothing => return arrival,
                 Arrival::Last => return Arrival::Last,
@@ -104,11 +193,11 @@ impl<S: Read + Drop> Held<S> {
     }
 
     /// Takes what one read gives.
-    fn read_once(&mut self, alloc: Global) -> Arrival
+    fn read_once(&mut self, watch: &Watch, alloc: Global) -> Arrival
         ensures bytes { Keeps (prepend_known self.old.received.bytes.items (S.remaining self.old.stream))
             (prepend_known self.new.received.bytes.items (S.remaining self.new.stream)) }
-        ensures deadline { self.new.deadline ≡ self.old.deadline }
-        ensures accepted { self.new.accepted ≡ self.old.accepted }
+        ensures same { IsSame self.old self.new }
+        ensures next { IsLookedAtBy self.old self.new }
         ensures come { HasCome self.old.received self.new.received result }
     {
         let mut buffer = [0; READ_LIMIT];
@@ -119,7 +208,10 @@ impl<S: Read + Drop> Held<S> {
             return Arrival::Last;
         }
         match self.stream.read(&mut buffer[..room]) {
-            Ok(0) => Arrival::Last,
+            Ok(0) => {
+                self.is_gone = self.received.bytes.is_empty();
+                Arrival::Last
+            }
             Ok(count) => {
                 let kept = self.received.add(&buffer[..count]);
                 prove!(kept.is_ok());
@@ -130,9 +222,69 @@ impl<S: Read + Drop> Held<S> {
                 }
             }
             Err(error) => match error.kind() {
-                ErrorKind::WouldBlock | ErrorKind::Interrupted => Arrival::Nothing,
-                _ => Arrival::Last,
+                ErrorKind::WouldBlock => {
+                    self.rest(watch);
+                    Arrival::Nothing
+                }
+                ErrorKind::Interrupted => Arrival::Nothing,
+                _ => {
+                    self.is_gone = true;
+                    Arrival::Last
+                }
             },
         }
+    }
+
+    /// Puts the next look off until something comes, or the time is over.
+    fn rest(&mut self, watch: &Watch)
+        ensures same { IsSame self.old self.new }
+        ensures next { IsLookedAtBy self.old self.new }
+        ensures stream { self.new.stream ≡ self.old.stream }
+        ensures received { self.new.received ≡ self.old.received }
+    {
+        let is_asked = watch.ask_for_bytes(self.stream.as_raw_fd(), self.number);
+        if is_asked.is_ok() {
+            self.next = self.deadline.end;
+        }
+    }
+}
+
+/// The reader of a connection: what was read before, and then the stream. From the connection's deadline on it gives
+/// neither, so no request is carried out whose time is over.
+pub(crate) type Asked<'a, S, C> = PromptStream<'a, AheadReader<SharedStream<S>>, C>;
+
+/// The writer of a connection.
+pub(crate) type Answering<'a, S, C> = LateWriter<PromptStream<'a, SharedStream<S>, C>>;
+
+impl<S: Read + Write + OpenStream + AsRawFd + Drop> Held<S> {
+    /// Its reader, which begins with what was received, and its writer.
+    pub(crate) fn open<'a, C: Clock>(
+        self,
+        alloc: Global,
+        clock: &'a C,
+    ) -> io::Result<(Asked<'a, S, C>, Answering<'a, S, C>)>
+        ensures { IfOk result (λ handles. (handles.0.stream.ahead ≡ self.received.bytes)
+            × (handles.0.stream.given ≡ 0) × (handles.0.deadline ≡ self.deadline)
+            × (handles.1.number ≡ self.number) × (handles.1.end ≡ self.deadline.end)
+            × (handles.1.unsent.items ≡ [])) }
+    {
+        let Held {
+            number,
+            peer: _,
+            stream,
+            deadline,
+            accepted: _,
+            next: _,
+            received,
+            is_gone: _,
+        } = self;
+        let descriptor = stream.as_raw_fd();
+        let stream = SharedStream::new(alloc, stream)?;
+        let reader = AheadReader::new(received.into_bytes(), stream.try_clone()?);
+        let writer = PromptStream::new(stream, clock, deadline);
+        Ok((
+            PromptStream::new(reader, clock, deadline),
+            LateWriter::new(alloc, number, descriptor, deadline.end, writer),
+        ))
     }
 }

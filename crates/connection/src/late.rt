@@ -6,21 +6,38 @@ ghost use Rattle.std.specs.Io.KnownBytes.{WriteAppends, append_known};
 use std::alloc::Global;
 use std::io;
 use std::io::{ErrorKind, Write};
+use std::os::fd::RawFd;
+use std::time::Instant;
 
 /// A writer that keeps what the writer below doesn't take at once.
 #[derive(Drop)]
 pub struct LateWriter<W: Drop> {
+    /// The number of the connection, that of its descriptor, and when its time is over.
+    pub(crate) number: usize,
+    pub(crate) descriptor: RawFd,
+    pub(crate) end: Instant,
     pub(crate) writer: W,
     /// What the writer below doesn't have yet.
     pub(crate) unsent: Vec<u8>,
 }
 
 impl<W: Write + Drop> LateWriter<W> {
-    pub(crate) fn new(alloc: Global, writer: W) -> Self
+    pub(crate) fn new(
+        alloc: Global,
+        number: usize,
+        descriptor: RawFd,
+        end: Instant,
+        writer: W,
+    ) -> Self
+        ensures number { result.number ≡ number }
+        ensures end { result.end ≡ end }
         ensures writer { result.writer ≡ writer }
         ensures unsent { result.unsent.items ≡ [] }
     {
         LateWriter {
+            number,
+            descriptor,
+            end,
             writer,
             unsent: Vec::new(alloc),
         }

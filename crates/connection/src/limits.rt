@@ -1,15 +1,24 @@
 //! The limits of connections.
 ghost use Rattle.std.specs.Prelude.{◌≡◌};
 ghost use Rattle.std.specs.Duration.{as_nanos};
-ghost use Rattle.connection.specs.Limits.{drain_time, granted, longest_pause, report_pause};
+ghost use Rattle.connection.specs.Limits.{drain_time, granted, report_pause};
 
 use std::time::Duration;
 
 /// The most connections that are held until their requests are whole.
 pub(crate) const MOST_HELD: usize = 4_096;
 
-/// How many bytes of memory the requests of all of them take before the oldest is given up.
+/// The most bytes of memory that the requests of all of them take.
 pub(crate) const MOST_MEMORY: usize = 16_777_216;
+
+/// The most bytes of memory that they take in addition in one turn.
+pub(crate) const MOST_GROWTH: usize = 2_097_152;
+
+/// How many descriptors are left to others, as files that are opened again.
+pub(crate) const RESERVE: usize = 8;
+
+/// The most sockets of which the system tells at once.
+pub(crate) const EVENTS_AT_ONCE: usize = 256;
 
 /// The most connections that one call looks at.
 pub(crate) const MOST_LOOKS: usize = 16;
@@ -17,9 +26,14 @@ pub(crate) const MOST_LOOKS: usize = 16;
 /// The most connections that are accepted in a row, if their requests aren't whole.
 pub(crate) const MOST_IN_A_ROW: u32 = 16;
 
-/// The most connections that are found ready during a search, and served after it. Their requests don't count among
-/// `MOST_MEMORY`.
-pub(crate) const MOST_READY: usize = 64;
+/// The most connections whose whole requests wait because all rows are read for them.
+pub(crate) const MOST_SEARCHES: usize = 512;
+
+/// How many of these, that were served last, decide whose is next.
+pub(crate) const LATEST_SEARCHES: usize = 32;
+
+/// How many seconds a search may take in all, if nobody says otherwise.
+pub const SEARCH_SECONDS: u32 = 10;
 
 /// The most connections that were served and aren't closed yet.
 pub(crate) const MOST_ENDINGS: usize = 256;
@@ -32,13 +46,6 @@ pub(crate) fn granted() -> Duration
     ensures { as_nanos result ≡ granted }
 {
     Duration::from_millis(100)
-}
-
-/// The longest time between two looks at a stream.
-pub(crate) fn longest_pause() -> Duration
-    ensures { as_nanos result ≡ longest_pause }
-{
-    Duration::from_millis(256)
 }
 
 /// How long a peer may still send after it has its answer.
@@ -55,26 +62,22 @@ pub(crate) fn report_pause() -> Duration
     Duration::from_secs(1)
 }
 
-/// The shortest time between two counts of the memory of waiting connections, if nobody has to leave.
-pub(crate) fn count_pause() -> Duration {
-    Duration::from_millis(1)
-}
-
-/// The longest time between two looks at all endings while connections wait, and at all connections during a search.
+/// How long a search goes on before others have a turn.
 pub(crate) fn longest_turn() -> Duration {
     Duration::from_millis(1)
 }
 
-/// The time between two looks at all endings once no more connections are accepted.
-pub(crate) fn ending_pause() -> Duration {
-    Duration::from_millis(1)
+/// How long others are served at least before such a request, as long as there are others.
+pub(crate) fn least_share() -> Duration {
+    Duration::from_millis(50)
 }
 
-/// The first sleep if nothing is to be done. Each is longer than the one before by this.
-pub(crate) fn first_sleep() -> Duration {
-    Duration::from_micros(20)
+/// How long one call goes on with connections that were served, before others have their turn.
+pub(crate) fn longest_work() -> Duration {
+    Duration::from_micros(250)
 }
 
-pub(crate) fn longest_sleep() -> Duration {
+/// How long it is waited before another connection is asked for, if the system gave none for want of something.
+pub(crate) fn accept_pause() -> Duration {
     Duration::from_millis(4)
 }

@@ -8,9 +8,6 @@ ghost use Rattle.connection.specs.Arriving.{HasExtent};
 use http_text::{BODY_LIMIT, Input, ReadFault, read_request};
 use std::alloc::{AllocError, Global};
 
-/// How a line begins that states the length of a body, in any case.
-const LENGTH_FIELD: &[u8] = b"content-length:";
-
 /// How far a request is.
 #[derive(Clone, Copy)]
 pub(crate) enum Extent {
@@ -72,41 +69,4 @@ fn left_in(input: Input<&[u8]>) -> usize
 {
     let ahead = input.ahead().len();
     ahead + input.into_inner().len()
-}
-
-/// Whether the lines of these bytes show that a request is whole, or refused: an empty line ends the head,
-/// and as many bytes follow as a line states. It is the quick test; another form is left to `is_part`.
-pub(crate) fn is_framed(bytes: &[u8]) -> bool {
-    let mut length = 0;
-    let mut end: usize = 0;
-    for line in bytes.split(|byte| *byte == b'\n') {
-        let is_first = end == 0;
-        end = end.saturating_add(line.len()).saturating_add(1);
-        if end > bytes.len() {
-            return false;
-        }
-        let line = line.strip_suffix(b"\r").unwrap_or(line);
-        if is_first && !line.ends_with(b" HTTP/1.1") {
-            return false;
-        }
-        if line.is_empty() {
-            return bytes.len() - end >= length;
-        }
-        length = length.max(stated_length(line));
-    }
-    false
-}
-
-/// The length of a body that a line states. Another line states 0, and an unreadable one more than comes.
-fn stated_length(line: &[u8]) -> usize {
-    let Some((name, value)) = line.split_at_checked(LENGTH_FIELD.len()) else {
-        return 0;
-    };
-    if !name.eq_ignore_ascii_case(LENGTH_FIELD) {
-        return 0;
-    }
-    match str::from_utf8(value.trim_ascii()) {
-        Ok(text) => text.parse().unwrap_or(usize::MAX),
-        Err(_) => usize::MAX,
-    }
 }

@@ -1,21 +1,20 @@
 //! What has come of a request.
-ghost use Rattle.std.specs.Prelude.{◌≡◌, ◌≤◌, ◌<◌, ◌+◌, ◌==◌, ◌++◌, [], length, vec_len, vec_capacity, IfSome, IsTrue, if◌then◌else◌};
+ghost use Rattle.std.specs.Prelude.{◌≡◌, ◌≤◌, ◌<◌, ◌+◌, ◌++◌, [], length, vec_len, vec_capacity, IfSome, IsTrue, if◌then◌else◌};
 ghost use Rattle.std.specs.Result.{is_ok, OnErr, OnOk};
 ghost use Rattle.std.specs.Bool.{OnFalse};
-ghost use Rattle.std.specs.List.{list_any};
 ghost use Rattle.http_text.specs.Forms.{request_form};
 ghost use Rattle.http_text.specs.Heads.{IsUnfinished};
-ghost use Rattle.connection.specs.Arriving.{AreUndecided, HasExtent, HasLength, IsPutOff, Waits};
+ghost use Rattle.connection.specs.Arriving.{AreUndecided, HasExtent, HasLength, IsDue, IsPutOff, Waits};
+ghost use Rattle.connection.specs.Lines.{lines_after};
+ghost use Rattle.connection.specs.declared.lines.HeadLines.TheVariants.{Blank};
 
-use crate::readiness::{Extent, extent_of, is_framed, is_part};
+use crate::lines::{HeadLines, lines_after};
+use crate::readiness::{Extent, extent_of, is_part};
 use http_text::HEAD_LIMIT;
 use std::alloc::{AllocError, Global};
 
 /// A part of a head is read again if more than this part of it has come since.
 const PART_OF_HEAD: usize = 8;
-
-/// A shorter part of a request is read at each arrival.
-const FEWEST_MEASURED: usize = 256;
 
 /// The bytes that have come of a request, and what was found of them.
 #[derive(Drop)]
@@ -25,8 +24,11 @@ pub(crate) struct Received {
     read: usize,
     /// How long the request is, if its head is whole.
     whole: Option<usize>,
+    /// How far the lines of its head are.
+    lines: HeadLines,
     ghost undecided: { ∥ AreUndecided bytes.items read ∥₁ },
     ghost length: { ∥ IfSome whole (HasLength bytes.items) ∥₁ },
+    ghost followed: { lines ≡ lines_after Blank bytes.items },
 }
 
 impl Received {
@@ -38,6 +40,7 @@ impl Received {
             bytes: Vec::new(alloc),
             read: 0,
             whole: None,
+            lines: HeadLines::Blank,
         }
     }
 
@@ -56,7 +59,9 @@ impl Received {
         ensures full { OnErr result
             (vec_capacity self.old.bytes < vec_len self.old.bytes + length bytes.now) }
     {
-        self.bytes.extend_from_slice(bytes)
+        self.bytes.extend_from_slice(bytes)?;
+        self.lines = lines_after(self.lines, bytes);
+        Ok(())
     }
 
     /// Frees the memory that the bytes don't need.
@@ -73,6 +78,7 @@ impl Received {
             bytes,
             read: _,
             whole: _,
+            lines: _,
         } = self;
         bytes
     }
@@ -84,9 +90,9 @@ impl Received {
         self.bytes.capacity()
     }
 
-    /// Whether the bytes decide what is answered: they hold a whole request, or are refused. It reads them only if
-    /// more may be known since the last time: a head that comes byte by byte a few dozen times, and once more for each
-    /// of its lines. If memory runs out, nobody waits for more.
+    /// Whether the bytes decide what is answered: they hold a whole request, or are refused. It reads them only if they
+    /// may have a whole head, or if an eighth more has come since the last time. If memory runs out, nobody waits for
+    /// more.
     pub(crate) fn is_ready(&mut self, alloc: Global) -> bool
         ensures waits { OnFalse result ∥ Waits self.new.bytes.items ∥₁ }
         ensures bytes { self.new.bytes ≡ self.old.bytes }
@@ -101,15 +107,12 @@ impl Received {
 
     /// Whether what has come since the last reading is too little to read again.
     fn is_put_off(&self) -> bool
-        ensures { IsTrue result → ∥ IsPutOff self.now.bytes.items ∥₁ }
+        ensures waits { IsTrue result → ∥ IsPutOff self.now.bytes.items ∥₁ }
+        ensures due { OnFalse result (IsDue self.now.bytes.items self.now.read) }
     {
-        let Some(more) = self.bytes.get(self.read..) else {
-            return false;
-        };
-        if self.bytes.len() >= HEAD_LIMIT || more.len() > self.read / PART_OF_HEAD {
-            return false;
-        }
-        !has_line_end(more)
+        let size = self.bytes.len();
+        let more = size.saturating_sub(self.read);
+        size < HEAD_LIMIT && more <= self.read / PART_OF_HEAD && !self.lines.have_ended()
     }
 
     /// Whether the bytes decide what is answered, by reading them. It notes what it finds.
@@ -117,23 +120,23 @@ impl Received {
         ensures waits { OnFalse result ∥ Waits self.new.bytes.items ∥₁ }
         ensures bytes { self.new.bytes ≡ self.old.bytes }
     {
-        if is_framed(&self.bytes) || !is_part(alloc, &self.bytes) {
+        if !is_part(alloc, &self.bytes) {
             return true;
         }
-        self.measure(alloc);
+        let extent = self.extent(alloc);
+        self.note(extent);
         false
     }
 
-    /// Finds how far a request is that isn't decided yet, unless reading it again costs less.
-    fn measure(&mut self, alloc: Global)
-        requires { IsUnfinished request_form self.old.bytes.items }
-        ensures { self.new.bytes ≡ self.old.bytes }
+    /// How far a request is that isn't decided yet.
+    fn extent(&self, alloc: Global) -> Extent
+        ensures { HasExtent self.now.bytes.items result }
     {
-        if self.bytes.len() < FEWEST_MEASURED {
-            return;
+        if self.lines.have_ended() {
+            extent_of(alloc, &self.bytes)
+        } else {
+            Extent::PartOfHead
         }
-        let extent = extent_of(alloc, &self.bytes);
-        self.note(extent);
     }
 
     /// Notes how far a request is that isn't decided yet.
@@ -148,11 +151,4 @@ impl Received {
             Extent::Unknown => {}
         }
     }
-}
-
-/// Whether a line ends among these bytes.
-fn has_line_end(bytes: &[u8]) -> bool
-    ensures { result ≡ list_any (λ byte. byte == 10) bytes.now }
-{
-    bytes.contains(&b'\n')
 }

@@ -26,7 +26,7 @@ pub fn serve_connections<R: Registry, L: Listen>(
     rt: &impl Eprint,
     alloc: Global,
     listener: &mut L,
-    count: u32,
+    count: u64,
     base: &Base,
     provider: &mut Provider<R>,
 ) -> Result<(), ConnectionFault>
@@ -49,7 +49,7 @@ pub fn serve_from_memory<L: Listen>(
     rt: &impl Eprint,
     alloc: Global,
     listener: &mut L,
-    count: u32,
+    count: u64,
     base: &Base,
 ) -> Result<(), ConnectionFault>
     ensures { (held : MemoryRecord) × FollowRequests [] held.rows count

@@ -1,279 +1,373 @@
 //! The connections of a listening socket.
-ghost use Rattle.std.specs.Prelude.{◌≡◌, ◌-◌, [], IfOk, refl};
+ghost use Rattle.std.specs.Prelude.{◌≡◌, ◌-◌, [], IfOk, IfSome, IsNone, refl, true, vec_len};
+ghost use Rattle.std.specs.Bool.{OnTrue};
+ghost use Rattle.std.specs.VecDeque.{deque_len};
+ghost use Rattle.connection.specs.Descriptors.{HasReserve, open_count};
 ghost use Rattle.connection.specs.Reporting.{with_more};
 
-use crate::accepting::makes_room;
-use crate::ahead::AheadReader;
+use crate::accepting::{Backlog, EMFILE, makes_room};
+use crate::descriptors::Descriptors;
 use crate::ending::Ending;
 use crate::endings::Endings;
-use crate::faults::{FaultCount, may_report};
-use crate::held::Held;
-use crate::late::LateWriter;
-use crate::limits::{
-    MOST_IN_A_ROW, MOST_READY, count_pause, first_sleep, longest_sleep, longest_turn,
-};
+use crate::faults::FaultCount;
+use crate::held::{Answering, Asked, Held};
+use crate::limits::{MOST_IN_A_ROW, RESERVE, longest_turn};
 use crate::listening::Listen;
+use crate::search_times::SearchTimes;
+use crate::searches::Searches;
 use crate::serving::{ConnectionFault, tell};
 use crate::waiting::Waiting;
+use crate::watch::{Sign, Watch, sign_of};
 use provider_core::Meanwhile;
 use std::alloc::Global;
-use std::collections::VecDeque;
+use std::io;
 use std::io::{Eprint, ErrorKind, Read, Write};
-use std::net::{OpenListener, OpenStream};
+use std::net::{IpAddr, Net, OpenListener, OpenStream};
+use std::os::fd::AsRawFd;
 use std::time::{Clock, Duration, Instant};
-use std::{io, thread};
-use timed_streams::{Deadline, PromptStream, SharedStream};
-
-/// How often it is looked for something to do before the first sleep.
-const LOOKS_AT_ONCE: u32 = 50;
+use timed_streams::{Deadline, SharedStream};
 
 /// The connections of a listening socket. Each has this time in all, from when it is accepted. A connection
-/// is given out when its request is whole, is refused by its form, has ended or failed, or is out of time.
-/// Meanwhile, and during long searches, other connections are accepted and read, answers are sent as their peers
-/// take them, and streams that were served are drained.
-#[derive(Drop)]
-pub struct Sockets<'a, L: OpenListener + Drop, C: Clock>
+/// is given out when its request is whole, is refused by its form, or ends in its midst. One on which none comes is
+/// closed, which is a fault. Meanwhile other connections are accepted and read, answers are sent as their peers take them, and streams that
+/// were served are drained. Each of these has its turn, with a bound on its work. During long searches all but the
+/// reading goes on. The system tells which sockets something came on, and others aren't looked at.
+pub struct Sockets<'a, L: OpenListener + AsRawFd + Drop, C: Clock + Eprint>
 where
-    L::Stream: Read + Write + OpenStream,
+    L::Stream: Read + Write + OpenStream + AsRawFd,
 {
     alloc: Global,
-    listener: L,
     clock: &'a C,
     limit: Duration,
-    /// Whether `accept` of the listener returns at once if no connection waits.
-    gives_up: bool,
-    /// When it was last reported that the system gave no connection.
-    reported: Option<Instant>,
+    /// Whether nothing is reported.
+    is_silent: bool,
+    watch: Watch,
+    backlog: Backlog<L>,
+    /// How many connections were accepted so far.
+    accepted: usize,
+    descriptors: Descriptors,
     faults: FaultCount,
     waiting: Waiting<L::Stream>,
-    /// Those that were found ready during a search, and are served next.
-    ready: VecDeque<Held<L::Stream>>,
-    /// How many faults there were during a search that aren't given out yet.
-    failed: u32,
-    /// When others were looked at last during the search that is under way.
+    /// Whether new connections are looked at before those that wait.
+    is_new_first: bool,
+    /// Whether a connection failed that wasn't given out.
+    has_failed: bool,
+    searches: Searches<L::Stream>,
+    search_times: SearchTimes,
+    /// Whether the search that is under way had its time, so that it was stopped.
+    is_stopped: bool,
+    /// When others had their turn last during the search that is under way.
     attended: Option<Instant>,
-    /// When the memory of waiting connections was counted last, and nobody had to leave.
-    counted: Option<Instant>,
-    /// How many new connections may come before the waiting ones are looked at again.
-    turns_of_new: u32,
     endings: Endings<'a, SharedStream<L::Stream>, C>,
 }
 
-/// What a look at some connections found.
-enum Look<S: Drop> {
-    Ready(Held<S>),
-    Moves,
-    /// Nothing moved, but not all connections were looked at yet.
-    Continues,
-    Waits,
+/// Dropping them sends what isn't sent yet of answers, and drains their streams.
+impl<'a, L: OpenListener + AsRawFd + Drop, C: Clock + Eprint> Drop for Sockets<'a, L, C>
+where
+    L::Stream: Read + Write + OpenStream + AsRawFd,
+{
+    fn drop(mut self) {
+        self.end_all();
+        let Sockets {
+            alloc: _,
+            clock: _,
+            limit: _,
+            is_silent: _,
+            watch: _,
+            backlog: _,
+            accepted: _,
+            descriptors: _,
+            faults: _,
+            waiting: _,
+            is_new_first: _,
+            has_failed: _,
+            searches: _,
+            search_times: _,
+            is_stopped: _,
+            attended: _,
+            endings: _,
+        } = self;
+    }
 }
 
-impl<'a, L: OpenListener + Drop, C: Clock> Sockets<'a, L, C>
+impl<'a, L: OpenListener + AsRawFd + Drop, C: Clock + Eprint> Sockets<'a, L, C>
 where
-    L::Stream: Read + Write + OpenStream,
+    L::Stream: Read + Write + OpenStream + AsRawFd,
 {
-    pub fn new(alloc: Global, listener: L, clock: &'a C, limit: Duration) -> Self {
-        Sockets {
+    /// The connections of this socket. Each has the time `limit` in all, and each search `longest_search`. It fails if
+    /// the system can't watch it.
+    pub fn new(
+        alloc: Global,
+        net: &impl Net,
+        listener: L,
+        clock: &'a C,
+        limit: Duration,
+        longest_search: Duration,
+    ) -> io::Result<Self>
+        ensures { IfOk result (λ sockets. (sockets.limit ≡ limit)
+            × (sockets.search_times.longest ≡ longest_search)) }
+    {
+        listener.set_nonblocking(true)?;
+        let watch = Watch::new(net, alloc)?;
+        watch.add_listener(&listener)?;
+        Ok(Sockets {
             alloc,
-            listener,
             clock,
             limit,
-            gives_up: false,
-            reported: None,
+            is_silent: false,
+            watch,
+            backlog: Backlog::new(listener),
+            accepted: 0,
+            descriptors: Descriptors::new(),
             faults: FaultCount::new(),
             waiting: Waiting::new(alloc),
-            ready: VecDeque::new(alloc),
-            failed: 0,
+            is_new_first: false,
+            has_failed: false,
+            searches: Searches::new(alloc),
+            search_times: SearchTimes::new(longest_search),
+            is_stopped: false,
             attended: None,
-            counted: None,
-            turns_of_new: 0,
             endings: Endings::new(alloc, clock),
-        }
+        })
     }
 
-    /// Looks at the next connections, and takes out the first that can be served. If there is nothing else to do,
-    /// and it `may_wait`, it waits for a new one. It fails if another one had to be dropped.
-    fn look(&mut self, may_wait: bool) -> io::Result<Look<L::Stream>> {
+    /// Asks the system what came on which sockets. If nothing did, it waits until something comes, or this time is
+    /// over, if there is one.
+    fn gather(&mut self, timeout: Option<Duration>) -> io::Result<()> {
+        self.watch.wait(timeout)?;
         let now = Instant::now(self.clock)?;
-        let has_moved = self.endings.are_due(now) && self.endings.go_on(now);
-        if self.is_memory_due(now) && self.free_memory(now) {
-            return Err(io::Error::from(ErrorKind::TimedOut));
+        for event in self.watch.events() {
+            match sign_of(event) {
+                Sign::Newcomer => self.backlog.note(),
+                Sign::Connection(number) => {
+                    if !self.waiting.note(number, now) {
+                        self.endings.note(number, now);
+                    }
+                }
+            }
         }
-        if let Some(held) = self.take_ready(now) {
-            return Ok(Look::Ready(held));
-        }
-        if let Some(stream) = self.next_stream(now, may_wait)? {
-            return self.look_at(stream);
-        }
-        self.turns_of_new = 0;
-        if has_moved || self.endings.go_on(now) {
-            Ok(Look::Moves)
-        } else if self.waiting.is_round_over() {
-            Ok(Look::Waits)
-        } else {
-            Ok(Look::Continues)
-        }
+        Ok(())
     }
 
-    /// Whether it is time to count the memory of waiting connections.
-    fn is_memory_due(&self, now: Instant) -> bool {
-        match self.counted {
-            Some(counted) => now.duration_since(counted) >= count_pause(),
-            None => true,
-        }
-    }
-
-    /// Gives up the oldest connection if the requests of all that wait take too much memory. It returns whether it
-    /// did: then they are counted again at once.
-    fn free_memory(&mut self, now: Instant) -> bool {
-        let is_freed = self.waiting.free_memory(now);
-        self.counted = if is_freed { None } else { Some(now) };
-        is_freed
-    }
-
-    /// Takes out the next connection that can be served, unless it is the turn of new ones: as long as they come, and
-    /// have to wait too, some of them are accepted in a row, so that the system's queue is emptied.
-    fn take_ready(&mut self, now: Instant) -> Option<Held<L::Stream>> {
-        if self.turns_of_new > 0 {
-            self.turns_of_new -= 1;
-            return None;
-        }
-        self.turns_of_new = MOST_IN_A_ROW;
-        self.waiting.take_ready(self.alloc, now)
-    }
-
-    /// The stream of a connection that the system has accepted. If there is nothing else to do, and it `may_wait`,
-    /// it waits for one.
-    fn next_stream(&mut self, now: Instant, may_wait: bool) -> io::Result<Option<L::Stream>> {
-        if !self.waiting.has_room(now) {
-            return Ok(None);
-        }
-        let gives_up = !(may_wait && self.waiting.is_empty() && self.endings.is_empty());
-        if gives_up != self.gives_up {
-            self.listener.set_nonblocking(gives_up)?;
-            self.gives_up = gives_up;
-        }
-        match self.listener.accept() {
-            Ok((stream, _)) => Ok(Some(stream)),
-            Err(error) => match error.kind() {
-                ErrorKind::WouldBlock | ErrorKind::Interrupted => Ok(None),
-                _ => self.unaccepted(error, now),
-            },
-        }
-    }
-
-    /// The system gives no connection. If it has no descriptor or no memory left, the oldest connection makes room. If
-    /// none can, or another error came, it is tried again after a pause; the fault is reported once a second at most.
-    fn unaccepted(&mut self, error: io::Error, now: Instant) -> io::Result<Option<L::Stream>> {
-        if makes_room(error.raw_os_error()) && self.waiting.give_up_oldest(now) {
-            return Err(error);
-        }
-        if !may_report(self.reported, now) {
-            return Ok(None);
-        }
-        self.reported = Some(now);
-        Err(error)
-    }
-
-    /// A new connection, of which nothing was read yet.
-    fn held(&self, stream: L::Stream) -> io::Result<Held<L::Stream>> {
-        stream.set_nonblocking(true)?;
-        let deadline = Deadline::after(self.clock, self.limit)?;
+    /// How long there is nothing to do if nothing comes. There is no such time if nobody has a deadline.
+    fn pause(&self) -> io::Result<Option<Duration>> {
         let now = Instant::now(self.clock)?;
-        Ok(Held::new(self.alloc, stream, deadline, now))
-    }
-
-    /// Holds a connection until it can be served. It fails if another one had to be dropped.
-    fn hold(&mut self, held: Held<L::Stream>, now: Instant) -> io::Result<Look<L::Stream>> {
-        if self.waiting.hold(held, now) {
-            Ok(Look::Moves)
-        } else {
-            Err(io::Error::from(ErrorKind::TimedOut))
-        }
-    }
-
-    /// Reads what has come of a new connection. If that isn't a whole request, the connection is held. It
-    /// fails if another one had to be dropped.
-    fn look_at(&mut self, stream: L::Stream) -> io::Result<Look<L::Stream>> {
-        let mut held = self.held(stream)?;
-        let now = held.accepted;
-        if held.is_ready(self.alloc, now) {
-            self.turns_of_new = 0;
-            return Ok(Look::Ready(held));
-        }
-        self.hold(held, now)
-    }
-
-    /// Accepts a new connection, if there is one, and holds it unread.
-    fn hold_next(&mut self, now: Instant) -> io::Result<Look<L::Stream>> {
-        match self.next_stream(now, false)? {
-            Some(stream) => {
-                let held = self.held(stream)?;
-                self.hold(held, now)
-            }
-            None => Ok(Look::Waits),
-        }
-    }
-
-    /// Goes on with others during a search: their answers are sent, new ones are accepted, and what they send is
-    /// read.
-    fn attend(&mut self, now: Instant) {
-        self.endings.go_on(now);
-        for _ in 0..MOST_IN_A_ROW {
-            if !self.attend_once(now) {
-                return;
-            }
-        }
-    }
-
-    /// Looks at some connections during a search, and keeps the first that can be served. If there is no place for
-    /// it, new connections are only held. It returns whether there may be more to do.
-    fn attend_once(&mut self, now: Instant) -> bool {
-        let is_full = self.ready.len() >= MOST_READY || self.ready.reserve(1).is_err();
-        let found = if is_full {
-            self.hold_next(now)
-        } else {
-            self.look(false)
-        };
-        match found {
-            Ok(Look::Ready(held)) => self.ready.push_back(held).is_ok(),
-            Ok(Look::Moves) => true,
-            Ok(Look::Continues | Look::Waits) => false,
-            Err(_) => {
-                self.failed = self.failed.saturating_add(1);
-                true
-            }
-        }
+        let room = self.waiting.room_time().unwrap_or(now);
+        let times = [
+            self.backlog.next_time(room),
+            self.waiting.next_time(),
+            self.endings.next_time(),
+        ];
+        let next = times.into_iter().flatten().min();
+        Ok(next.map(|time| time.duration_since(now)))
     }
 
     /// Waits for a connection that can be served.
     fn wait(&mut self) -> io::Result<Held<L::Stream>> {
-        let mut idle: u32 = 0;
+        let mut pause = Some(Duration::ZERO);
         for _ in 0..u64::MAX {
-            match self.look(true)? {
-                Look::Ready(held) => return Ok(held),
-                Look::Moves => idle = 0,
-                Look::Continues => {}
-                Look::Waits => {
-                    pause(self.clock, idle);
-                    idle = idle.saturating_add(1);
+            self.gather(pause)?;
+            let found = self.turn();
+            self.report()?;
+            pause = Some(Duration::ZERO);
+            match found {
+                Ok(Some(held)) => {
+                    if let Some(held) = self.unless_search(held) {
+                        return Ok(held);
+                    }
                 }
+                Ok(None) => pause = self.pause()?,
+                Err(_) => self.fail(),
+            }
+            if let Some(held) = self.next_search(pause)? {
+                return Ok(held);
             }
         }
         Err(io::Error::from(ErrorKind::TimedOut))
     }
 
-    /// The next connection that can be served: first those that were found during a search.
-    fn next_ready(&mut self) -> io::Result<Held<L::Stream>> {
-        self.attended = None;
-        if let Some(held) = self.ready.pop_front() {
-            return Ok(held);
+    /// A connection that can be served, unless no request comes any more, or all rows are read for its request. Then it
+    /// waits behind all others.
+    fn unless_search(&mut self, held: Held<L::Stream>) -> Option<Held<L::Stream>> {
+        if !held.is_gone() && !held.is_search(self.alloc) {
+            return Some(held);
         }
-        if self.failed > 0 {
-            self.failed -= 1;
+        if self.searches.len() == 0 {
+            self.search_times.put_off(Instant::now(self.clock).ok());
+        }
+        if held.is_gone() || !self.searches.add(held) {
+            self.fail();
+        }
+        None
+    }
+
+    /// The next connection for whose request all rows are read, if there is one, and nobody else is to be served, or
+    /// others were served for as long as the last of these took.
+    fn next_search(&mut self, pause: Option<Duration>) -> io::Result<Option<Held<L::Stream>>> {
+        let now = Instant::now(self.clock)?;
+        if pause == Some(Duration::ZERO) && !self.search_times.had_their_share(now) {
+            return Ok(None);
+        }
+        for _ in 0..self.searches.len() {
+            match self.searches.take() {
+                Some(held) if !held.is_over(now) => {
+                    self.search_times.begin(now);
+                    return Ok(Some(held));
+                }
+                _ => self.fail(),
+            }
+        }
+        Ok(None)
+    }
+
+    /// Counts the fault of a connection that isn't given out.
+    fn fail(&mut self) {
+        self.has_failed = true;
+        self.faults.add(1);
+    }
+
+    /// From now on nobody is told of faults.
+    pub fn silence(&mut self)
+        ensures { self.new ≡ record self.old { is_silent = true } }
+    {
+        self.is_silent = true;
+    }
+
+    /// Reports faults on standard error, once a second at most.
+    fn report(&mut self) -> io::Result<()> {
+        let now = Instant::now(self.clock)?;
+        let faults = self.faults.take_due(now);
+        if !self.is_silent {
+            tell(self.clock, faults);
+        }
+        Ok(())
+    }
+
+    /// A turn of all: those that were served go on, new ones are accepted, and those that wait are looked at. It takes
+    /// out one that can be served: of the new ones first, or of the others first, by turns. It fails if another one had
+    /// to be dropped.
+    fn turn(&mut self) -> io::Result<Option<Held<L::Stream>>> {
+        let now = Instant::now(self.clock)?;
+        self.endings.go_on(&self.watch, now);
+        if self.waiting.free_memory(self.searches.size()) {
             return Err(io::Error::from(ErrorKind::TimedOut));
         }
-        self.wait()
+        self.is_new_first = !self.is_new_first;
+        if self.is_new_first
+            && let Some(held) = self.accept_some(now)?
+        {
+            return Ok(Some(held));
+        }
+        if let Some(held) = self.waiting.take_ready(&self.watch, self.alloc, now) {
+            return Ok(Some(held));
+        }
+        if self.is_new_first {
+            return Ok(None);
+        }
+        self.accept_some(now)
+    }
+
+    /// Accepts and reads some new connections, up to the first that can be served. The others are held.
+    fn accept_some(&mut self, now: Instant) -> io::Result<Option<Held<L::Stream>>> {
+        for _ in 0..MOST_IN_A_ROW {
+            let Some(mut held) = self.next_held(now)? else {
+                return Ok(None);
+            };
+            if !held.is_ready(&self.watch, self.alloc, now) {
+                self.hold(held, now)?;
+            } else if held.is_gone() {
+                self.fail();
+            } else {
+                return Ok(Some(held));
+            }
+        }
+        Ok(None)
+    }
+
+    /// Accepts some new connections, and holds them unread.
+    fn hold_some(&mut self, now: Instant) -> io::Result<()> {
+        for _ in 0..MOST_IN_A_ROW {
+            match self.next_held(now)? {
+                Some(held) => self.hold(held, now)?,
+                None => return Ok(()),
+            }
+        }
+        Ok(())
+    }
+
+    /// The next new connection, unread, if there is one, and a place and a descriptor for it.
+    fn next_held(&mut self, now: Instant) -> io::Result<Option<Held<L::Stream>>>
+        ensures { IfOk result (λ found. IfSome found (λ _. HasReserve RESERVE
+            (open_count (deque_len self.old.waiting.connections)
+            (deque_len self.old.searches.waiting) (vec_len self.old.endings.endings))
+            self.old.descriptors self.new.descriptors)) }
+    {
+        if !(self.backlog.is_due(now) && self.waiting.has_room(now)) {
+            return Ok(None);
+        }
+        if !self.has_descriptors() {
+            return self.unaccepted(io::Error::from_raw_os_error(EMFILE), now);
+        }
+        match self.backlog.next() {
+            Ok(Some((stream, peer))) => self.held(stream, peer).map(Some),
+            Ok(None) => Ok(None),
+            Err(error) => self.unaccepted(error, now),
+        }
+    }
+
+    /// Whether the system has a descriptor for another connection, and some that it leaves to others.
+    fn has_descriptors(&mut self) -> bool
+        ensures { OnTrue result (HasReserve RESERVE
+            (open_count (deque_len self.old.waiting.connections)
+            (deque_len self.old.searches.waiting) (vec_len self.old.endings.endings))
+            self.old.descriptors self.new.descriptors) }
+    {
+        let open = self
+            .waiting
+            .len()
+            .saturating_add(self.searches.len())
+            .saturating_add(self.endings.len());
+        self.descriptors.has_another(&self.watch, self.alloc, open)
+    }
+
+    /// The system gives no connection. If it has no descriptor or no memory left, the oldest connection makes room. If
+    /// none can, or another error came, it is tried again after a pause; the fault is reported once a second at most.
+    fn unaccepted(&mut self, error: io::Error, now: Instant) -> io::Result<Option<Held<L::Stream>>>
+        ensures { IfOk result (λ found. IsNone found) }
+    {
+        let has_left = makes_room(error.raw_os_error()) && self.waiting.give_up_oldest(now);
+        if has_left || self.backlog.put_off(now) {
+            return Err(error);
+        }
+        Ok(None)
+    }
+
+    /// A new connection, of which nothing was read yet.
+    fn held(&mut self, stream: L::Stream, peer: IpAddr) -> io::Result<Held<L::Stream>>
+        ensures { self.new.descriptors ≡ self.old.descriptors }
+    {
+        stream.set_nonblocking(true)?;
+        let number = self.accepted;
+        self.accepted = number.wrapping_add(1);
+        let deadline = Deadline::after(self.clock, self.limit)?;
+        let now = Instant::now(self.clock)?;
+        Ok(Held::new(self.alloc, number, peer, stream, deadline, now))
+    }
+
+    /// Holds a connection until it can be served. It fails if another one had to be dropped.
+    fn hold(&mut self, held: Held<L::Stream>, now: Instant) -> io::Result<()> {
+        if self.waiting.hold(held, now) {
+            Ok(())
+        } else {
+            Err(io::Error::from(ErrorKind::TimedOut))
+        }
+    }
+
+    /// Goes on with others during a search: their answers are sent, and new ones are accepted.
+    fn attend(&mut self, now: Instant) -> io::Result<()> {
+        self.gather(Some(Duration::ZERO))?;
+        self.endings.go_on(&self.watch, now);
+        self.hold_some(now)
     }
 
     /// Counts faults of connections, and with them the answers that were lost since the last call.
@@ -286,13 +380,30 @@ where
         self.faults.add(self.endings.take_lost());
     }
 
+    /// Goes on until every answer is sent and every stream is drained, or its time is over.
+    fn end_all(&mut self) {
+        for _ in 0..u64::MAX {
+            let Ok(now) = Instant::now(self.clock) else {
+                return;
+            };
+            self.endings.go_on(&self.watch, now);
+            let Some(time) = self.endings.next_time() else {
+                return;
+            };
+            if self.gather(Some(time.duration_since(now))).is_err() {
+                return;
+            }
+        }
+    }
+
     /// Waits until every answer is sent and every stream is drained, or its time is over. It reports on
-    /// standard error the faults that aren't reported yet. The result is a fault if an answer was ever lost.
+    /// standard error the faults that aren't reported yet. The result is a fault if an answer was ever lost, or a
+    /// connection failed that wasn't given out.
     pub fn finish(&mut self, rt: &impl Eprint) -> Result<(), ConnectionFault> {
-        self.endings.finish();
+        self.end_all();
         self.count(0);
         tell(rt, self.faults.take_all());
-        if self.endings.has_lost() {
+        if self.has_failed || self.endings.has_lost() {
             Err(ConnectionFault)
         } else {
             Ok(())
@@ -300,74 +411,53 @@ where
     }
 }
 
-/// The reader of a connection: what was read before, and then the stream.
-type Asked<'a, S, C> = AheadReader<PromptStream<'a, SharedStream<S>, C>>;
-
-/// The writer of a connection.
-type Answering<'a, S, C> = LateWriter<PromptStream<'a, SharedStream<S>, C>>;
-
-/// A reader and a writer of a connection that was held.
-fn opened<'a, S: Read + Write + OpenStream + Drop, C: Clock>(
-    alloc: Global,
-    held: Held<S>,
-    clock: &'a C,
-) -> io::Result<(Asked<'a, S, C>, Answering<'a, S, C>)>
-    ensures { IfOk result (λ handles. (handles.0.ahead ≡ held.received.bytes) × (handles.0.given ≡ 0)
-        × (handles.1.unsent.items ≡ [])) }
-{
-    let Held {
-        stream,
-        deadline,
-        accepted: _,
-        next: _,
-        received,
-    } = held;
-    let stream = SharedStream::new(alloc, stream)?;
-    let reader = PromptStream::new(stream.try_clone()?, clock, deadline);
-    let writer = PromptStream::new(stream, clock, deadline);
-    Ok((
-        AheadReader::new(received.into_bytes(), reader),
-        LateWriter::new(alloc, writer),
-    ))
-}
-
-impl<'a, L: OpenListener + Drop, C: Clock> Meanwhile for Sockets<'a, L, C>
+impl<'a, L: OpenListener + AsRawFd + Drop, C: Clock + Eprint> Meanwhile for Sockets<'a, L, C>
 where
-    L::Stream: Read + Write + OpenStream,
+    L::Stream: Read + Write + OpenStream + AsRawFd,
 {
     ghost keeps = { λ _ _. Unit {0} };
+
+    ghost stops = { λ sockets. sockets.is_stopped };
 
     ghost keeps_itself = { λ _. tt };
 
     ghost keeps_on = { λ _ _ _ _ _. tt };
 
-    /// A search goes on. If the last look at others was a while ago, they are looked at.
-    fn after_page(&mut self) {
+    /// A search goes on, unless it has had its time. If the last turn of the others was a while ago, they have another.
+    fn after_page(&mut self) -> bool {
+        self.is_stopped = false;
         let Ok(now) = Instant::now(self.clock) else {
-            return;
+            return true;
         };
         match self.attended {
             Some(attended) if now.duration_since(attended) < longest_turn() => {}
             Some(_) => {
                 self.attended = Some(now);
-                self.attend(now);
+                if self.attend(now).is_err() {
+                    self.fail();
+                }
             }
             None => self.attended = Some(now),
         }
+        self.is_stopped = self.search_times.is_over(now);
+        !self.is_stopped
     }
 }
 
-impl<'a, L: OpenListener + Drop, C: Clock> Listen for Sockets<'a, L, C>
+impl<'a, L: OpenListener + AsRawFd + Drop, C: Clock + Eprint> Listen for Sockets<'a, L, C>
 where
-    L::Stream: Read + Write + OpenStream,
+    L::Stream: Read + Write + OpenStream + AsRawFd,
 {
     type Reader = Asked<'a, L::Stream, C>;
 
     type Writer = Answering<'a, L::Stream, C>;
 
     fn accept(&mut self) -> io::Result<(Self::Reader, Self::Writer)> {
-        let held = self.next_ready()?;
-        opened(self.alloc, held, self.clock)
+        if self.search_times.end(Instant::now(self.clock)?) {
+            self.attended = None;
+        }
+        let held = self.wait()?;
+        held.open(self.alloc, self.clock)
     }
 
     fn end(&mut self, _: Self::Reader, writer: Self::Writer) {
@@ -385,15 +475,4 @@ where
     }
 
     ghost keeps_waiting = { λ _ _ _. refl };
-}
-
-/// Lets others run. After some looks without anything to do, it sleeps: first for a moment, then longer.
-fn pause(clock: &impl Clock, idle: u32) {
-    match idle.saturating_sub(LOOKS_AT_ONCE) {
-        0 => thread::yield_now(),
-        pauses => thread::sleep(
-            clock,
-            first_sleep().saturating_mul(pauses).min(longest_sleep()),
-        ),
-    }
 }

@@ -3,14 +3,19 @@ ghost use Rattle.std.specs.Prelude.{◌≡◌, ◌≤◌, ◌<◌, ◌+◌, ◌�
 ghost use Rattle.std.specs.Bool.{OnFalse, OnTrue};
 ghost use Rattle.std.specs.List.{slice_index_or};
 ghost use Rattle.std.specs.VecDeque.{deque_capacity, deque_len};
-ghost use Rattle.connection.specs.Holding.{GivesUp, HasRoom, Holds, IsDue, LooksAt, Refuses, Takes, TakesFirst, count_of, end_of, first_of, is_time, memory_of, round_end};
+ghost use Rattle.connection.specs.Holding.{GivesUp, GivesUpLargest, HasRoom, Holds, IsDue, IsLargest, Leaves, LooksAt, Notes, NotesAt, Refuses, Takes, TakesFirst, count_of, end_of, first_of, is_time, memory_of, round_end, size_of};
 
 use crate::held::Held;
-use crate::limits::{MOST_HELD, MOST_LOOKS, MOST_MEMORY, granted};
+use crate::limits::{MOST_GROWTH, MOST_HELD, MOST_LOOKS, MOST_MEMORY, granted};
+use crate::watch::Watch;
 use std::alloc::Global;
 use std::collections::VecDeque;
 use std::io::Read;
+use std::os::fd::AsRawFd;
 use std::time::Instant;
+
+/// How much memory the requests of all may take before a turn, so that they don't exceed the bound in it.
+const MOST_BEFORE: usize = MOST_MEMORY - MOST_GROWTH;
 
 /// Connections whose requests aren't whole yet, in the order in which they were accepted. They are passed in rounds.
 /// A round has the connections that are held when it begins.
@@ -23,7 +28,7 @@ pub(crate) struct Waiting<S: Drop> {
     end: usize,
 }
 
-impl<S: Read + Drop> Waiting<S> {
+impl<S: Read + AsRawFd + Drop> Waiting<S> {
     pub(crate) fn new(alloc: Global) -> Self
         ensures { result.connections.items ≡ [] }
     {
@@ -34,14 +39,8 @@ impl<S: Read + Drop> Waiting<S> {
         }
     }
 
-    pub(crate) fn is_empty(&self) -> bool
-        ensures { IsTrue result ↔ (deque_len self.now.connections ≡ 0) }
-    {
-        self.connections.is_empty()
-    }
-
     /// Whether all connections of the round were passed, or have left: the next call begins another.
-    pub(crate) fn is_round_over(&self) -> bool
+    fn is_round_over(&self) -> bool
         ensures { IsTrue result ↔ (round_end self.now ≤ self.now.next) }
     {
         self.next >= self.round_end()
@@ -52,6 +51,13 @@ impl<S: Read + Drop> Waiting<S> {
         ensures { result ≡ round_end self.now }
     {
         self.end.min(self.connections.len())
+    }
+
+    /// How many there are.
+    pub(crate) fn len(&self) -> usize
+        ensures { result ≡ deque_len self.now.connections }
+    {
+        self.connections.len()
     }
 
     /// Whether there is no place for one more.
@@ -74,7 +80,7 @@ impl<S: Read + Drop> Waiting<S> {
         ensures { IsTrue result ↔ IsDue self.now.connections.items now }
     {
         match self.connections.front() {
-            Some(held) => now.duration_since(held.accepted) >= granted(),
+            Some(held) => now.duration_since(held.accepted()) >= granted(),
             None => false,
         }
     }
@@ -118,11 +124,16 @@ impl<S: Read + Drop> Waiting<S> {
 
     /// Takes out the next connection that can be served. It goes on with the round, or begins another if that is over.
     /// Only connections that it is time to look at count among the `MOST_LOOKS` that it looks at.
-    pub(crate) fn take_ready(&mut self, alloc: Global, now: Instant) -> Option<Held<S>>
+    pub(crate) fn take_ready(
+        &mut self,
+        watch: &Watch,
+        alloc: Global,
+        now: Instant,
+    ) -> Option<Held<S>>
         ensures { Takes S.remaining now MOST_LOOKS self.old self.new result }
     {
         self.go_on();
-        self.take_from_round(alloc, now)
+        self.take_from_round(watch, alloc, now)
     }
 
     /// Goes on with the round, or begins another if it is over: that has all connections that are held now.
@@ -140,7 +151,7 @@ impl<S: Read + Drop> Waiting<S> {
     }
 
     /// Takes out the next connection of the round that can be served.
-    fn take_from_round(&mut self, alloc: Global, now: Instant) -> Option<Held<S>>
+    fn take_from_round(&mut self, watch: &Watch, alloc: Global, now: Instant) -> Option<Held<S>>
         requires begun { self.old.next ≤ self.old.end }
         requires end { self.old.end ≤ deque_len self.old.connections }
         ensures takes { TakesFirst S.remaining now MOST_LOOKS
@@ -158,7 +169,7 @@ impl<S: Read + Drop> Waiting<S> {
                     return None;
                 }
                 looks += 1;
-                if self.is_ready_at(place, alloc, now) {
+                if self.is_ready_at(place, watch, alloc, now) {
                     self.end = end - 1;
                     return self.connections.remove(place);
                 }
@@ -177,37 +188,125 @@ impl<S: Read + Drop> Waiting<S> {
         self.connections[place].is_due(now)
     }
 
-    /// Whether the connection at a place can be served.
-    fn is_ready_at(&mut self, place: usize, alloc: Global, now: Instant) -> bool
+    /// Notes that something may have come on the connection with this number, so that it is time to look at it. It
+    /// returns whether it is held.
+    pub(crate) fn note(&mut self, number: usize, now: Instant) -> bool
+        ensures { Notes number now self.old self.new }
+    {
+        let place = self
+            .connections
+            .partition_point(|held| held.number() < number);
+        if place >= self.connections.len() || self.number_at(place) != number {
+            return false;
+        }
+        self.note_at(place, now);
+        true
+    }
+
+    /// The number of the connection at a place.
+    fn number_at(&self, place: usize) -> usize
+        requires { place < deque_len self.now.connections }
+        ensures { (d : _) → result
+            ≡ (slice_index_or self.now.connections.items place d).number }
+    {
+        self.connections[place].number()
+    }
+
+    /// Notes that something may have come on the connection at a place.
+    fn note_at(&mut self, place: usize, now: Instant)
         requires { place < deque_len self.old.connections }
-        ensures looks { LooksAt S.remaining now place self.old.connections.items
+        ensures { NotesAt place now self.old self.new }
+    {
+        self.connections[place].note(now);
+    }
+
+    /// When it is time to look at one of them, if there are any and nothing comes before.
+    pub(crate) fn next_time(&self) -> Option<Instant> {
+        self.connections.iter().map(|held| held.next()).min()
+    }
+
+    /// When the oldest has had its time, if there is no place for one more.
+    pub(crate) fn room_time(&self) -> Option<Instant> {
+        if !self.is_full() {
+            return None;
+        }
+        self.connections.front()?.accepted().checked_add(granted())
+    }
+
+    /// Whether the connection at a place can be served.
+    fn is_ready_at(&mut self, place: usize, watch: &Watch, alloc: Global, now: Instant) -> bool
+        requires { place < deque_len self.old.connections }
+        ensures looks { LooksAt S.remaining place self.old.connections.items
             self.new.connections.items result }
         ensures next { self.new.next ≡ self.old.next }
         ensures end { self.new.end ≡ self.old.end }
     {
-        self.connections[place].is_ready(alloc, now)
+        self.connections[place].is_ready(watch, alloc, now)
     }
 
-    /// Gives up the oldest connection if the requests of all of them take too much memory, and it has had its time. It
-    /// returns whether it did.
-    pub(crate) fn free_memory(&mut self, now: Instant) -> bool
-        ensures given_up { OnTrue result ((MOST_MEMORY ≤ memory_of self.old.connections.items)
-            × GivesUp now self.old self.new) }
+    /// Gives up the connection with the largest request, however old it is, if the requests of all of them and those of
+    /// others take so much memory that the next turn could exceed the bound. It returns whether it did.
+    pub(crate) fn free_memory(&mut self, others: usize) -> bool
+        ensures given_up { OnTrue result
+            ((MOST_BEFORE < others + memory_of self.old.connections.items)
+            × GivesUpLargest self.old self.new) }
         ensures kept { OnFalse result ((self.new ≡ self.old)
-            × ((memory_of self.old.connections.items < MOST_MEMORY)
-            ⊎ (IsDue self.old.connections.items now → ⊥))) }
+            × ((deque_len self.old.connections ≡ 0)
+            ⊎ (others + memory_of self.old.connections.items ≤ MOST_BEFORE))) }
     {
-        self.takes_too_much() && self.give_up_oldest(now)
+        if self.connections.is_empty() || !self.takes_too_much(others) {
+            return false;
+        }
+        let place = self.largest();
+        self.leave(place);
+        true
     }
 
-    /// Whether the requests of all of them take too much memory.
-    fn takes_too_much(&self) -> bool
-        ensures { IsTrue result ↔ (MOST_MEMORY ≤ memory_of self.now.connections.items) }
+    /// Whether the requests of all of them take too much memory before a turn.
+    fn takes_too_much(&self, others: usize) -> bool
+        ensures { IsTrue result ↔ (MOST_BEFORE < others + memory_of self.now.connections.items) }
     {
-        let mut size: usize = 0;
+        let mut size = others;
         for place in 0..self.connections.len() {
-            size = size.saturating_add(self.connections[place].received.size());
+            size = size.saturating_add(self.connections[place].size());
         }
-        size >= MOST_MEMORY
+        size > MOST_BEFORE
+    }
+
+    /// The place of the largest request, and of several the oldest.
+    fn largest(&self) -> usize
+        requires { 0 < deque_len self.now.connections }
+        ensures { IsLargest self.now.connections.items result }
+    {
+        let mut found = 0;
+        for place in 1..self.connections.len() {
+            if self.size_at(place) > self.size_at(found) {
+                found = place;
+            }
+        }
+        found
+    }
+
+    /// How many bytes of memory the request at a place takes.
+    fn size_at(&self, place: usize) -> usize
+        requires { place < deque_len self.now.connections }
+        ensures { (d : _) → result
+            ≡ size_of (slice_index_or self.now.connections.items place d) }
+    {
+        self.connections[place].size()
+    }
+
+    /// Closes the connection at a place.
+    fn leave(&mut self, place: usize)
+        requires { place < deque_len self.old.connections }
+        ensures { Leaves place self.old self.new }
+    {
+        let _gone = self.connections.remove(place);
+        if place < self.next {
+            self.next -= 1;
+        }
+        if place < self.end {
+            self.end -= 1;
+        }
     }
 }

@@ -2,23 +2,24 @@
 use Rattle.std.proofs.Common.{◌≡◌, ℕ, ◌+◌, ◌-◌, ◌<◌, ◌≤◌, List, [], ◌∷◌, ◌++◌, length, take, drop, refl, ap, sym, ◌∙◌, arith, subst, length-append, length-take, Option, Result, Ok, Err, inl, inr}
 use Rattle.std.proofs.Math.Seq.{take-append-add}
 use Rattle.std.proofs.lemmas.Bool.Decides.{leb_tells}
-use Rattle.std.proofs.lemmas.List.{append-nil, length-map, take-take, take_at}
+use Rattle.std.proofs.lemmas.List.{append-nil, length-map, length-take-le, take-take, take_at}
 use Rattle.std.specs.Prelude.{IfOk, IfErr}
 use Rattle.std.specs.Io.KnownBytes.{Consumes}
 use Rattle.httparse.specs.declared.spans.HeaderSpan.{HeaderSpan}
 use Rattle.httparse.specs.Spans.{header_bytes, name_and_value}
 use Rattle.http_text.specs.declared.parsing.HeadSpans.{HeadSpans}
+use Rattle.http_text.specs.declared.parsing.Refusal.{Refusal}
 use Rattle.http_text.specs.declared.fault.ReadFault.{ReadFault}
 use Rattle.http_text.specs.declared.fault.ReadFault.TheVariants.{Malformed, HostMissingOrRepeated, LengthMissing, BodyTooLong, HeadTooLong, TransferCoding, Expectation, EndedEarly, ReadFailed, OutOfMemory, TurnsExhausted}
 use Rattle.http_text.specs.Message.{Message, head_limit, field_limit}
 use Rattle.http_text.specs.Forms.{Form}
 use Rattle.http_text.specs.Heads.{IsUndecided, IsUndecidedBefore, Refuses, IsRefusedHead, IsPartOfBody, TakesMessage, TakesRefused}
 use Rattle.http_text.specs.Parsing.{front_message, AreWithin, IsHeadAt, IsHeadOf}
-use Rattle.http_text.specs.Steps.{GivesNone, RefusesHead, TakesHead, TakesBody, CutsBody}
+use Rattle.http_text.specs.Steps.{GivesNone, IsFirstRefusal, RefusesHead, TakesHead, TakesBody, CutsBody}
 use Rattle.http_text.proofs.FormLaws.{Laws}
 use Rattle.http_text.proofs.JudgeLemmas.{IsHeadFault}
 use Rattle.http_text.proofs.KnownLemmas.{Consumes-kept, Consumes-then}
-use Rattle.http_text.proofs.ListLemmas.{front_of, same_split}
+use Rattle.http_text.proofs.ListLemmas.{front_of}
 
 module _ (F : Form) (laws : Laws F) where
   -- a head at the front of more bytes than those that hold none is longer than these
@@ -35,23 +36,58 @@ module _ (F : Form) (laws : Laws F) where
         | inr long ↦ long.1
       ]
 
+  -- one byte less isn't refused
+  one_before : (all : List ℕ) (k : ℕ) → 0 < k → k ≤ length all → IsUndecided F (take (k - 1) all)
+      → IsUndecidedBefore F (take k all)
+  one_before all k some fits undecided front last e =
+      let size : length front + 1 ≡ length (take k all) = sym (ap length e ∙ length-append front (last ∷ [])) in
+      let shorter : length front ≡ k - 1 = omega (arith, length-take-le k all fits) in
+      let same : front ≡ take (k - 1) all =
+      sym (take_at front (last ∷ []) (k - 1) shorter) ∙ ap (take (k - 1)) (sym e)
+      ∙ take-take (k - 1) k all (omega arith) in
+      subst (IsUndecided F) (sym same) undecided
+
+  refuses : (bytes : List ℕ) → length bytes ≤ head_limit → (left : Option (List ℕ)) (fault : ReadFault)
+      → IsUndecidedBefore F bytes → RefusesHead F bytes fault → Refuses F bytes left fault
+  refuses bytes size left Malformed first never = inl (record { never = never; before = first; size = size })
+  refuses bytes size left (HostMissingOrRepeated is_head) first h = absurd h
+  refuses bytes size left (LengthMissing is_head) first h = absurd h
+  refuses bytes size left (BodyTooLong is_head) first h = absurd h
+  refuses bytes size left HeadTooLong first h =
+      elim h [
+        | inl limit ↦ inl limit
+        | inr fields ↦ inr (record { exceeds = fields.0; overflows = fields.1; before = first; size = size })
+      ]
+  refuses bytes size left (TransferCoding is_head) first h = absurd h
+  refuses bytes size left (Expectation is_head) first h = absurd h
+  refuses bytes size left EndedEarly first h = absurd h
+  refuses bytes size left ReadFailed first h = absurd h
+  refuses bytes size left OutOfMemory first h = absurd h
+  refuses bytes size left TurnsExhausted first h = absurd h
+
   module _ (old now new : Option (List ℕ)) (bytes ahead all : List ℕ) (count : ℕ) (taken : Consumes old now bytes) (is : all ≡ bytes ++ take count ahead)
       (undecided : IsUndecided F bytes) (size : length all ≤ head_limit) where
+    -- a front of all of them that is longer than the first ones
+    front_taken : (k : ℕ) → length bytes ≤ k → k ≤ length all → bytes ++ take (k - length bytes) ahead ≡ take k all
+    front_taken k long fits =
+        let n = k - length bytes in
+        let sum : length all ≡ length bytes + length (take count ahead) =
+        ap length is ∙ length-append bytes (take count ahead) in
+        let enough : n ≤ count = omega (arith, length-take count ahead) in
+        let whole : length bytes + n ≡ k = omega arith in
+        ap (λ (t : List ℕ). bytes ++ t) (sym (take-take n count ahead enough))
+        ∙ sym (take-append-add bytes (take count ahead) n)
+        ∙ ap (λ m. take m (bytes ++ take count ahead)) whole ∙ ap (take k) (sym is)
+
     module _ (fields : List HeaderSpan) (spans : HeadSpans) (within : AreWithin all fields spans) (more : Consumes now new (take (spans.len - length bytes) ahead))
         (room : length fields ≡ field_limit) where
       -- what was taken is the head
       TakesHead-front : IsHeadOf F all fields spans → Consumes old new (take spans.len all)
       TakesHead-front found =
-          let n = spans.len - length bytes in
           let long = head_is_longer bytes (take count ahead) fields spans undecided (subst (λ (t : List ℕ). IsHeadOf F t fields spans) is found) in
-          let fits : spans.len ≤ length all = within.section.len_fits in
-          let sum : length all ≡ length bytes + length (take count ahead) = ap length is ∙ length-append bytes (take count ahead) in
-          let enough : n ≤ count = omega (arith, length-take count ahead) in
-          let whole : length bytes + n ≡ spans.len = omega arith in
-          let front : bytes ++ take n ahead ≡ take spans.len all =
-          ap (λ (t : List ℕ). bytes ++ t) (sym (take-take n count ahead enough)) ∙ sym (take-append-add bytes (take count ahead) n)
-          ∙ ap (λ k. take k (bytes ++ take count ahead)) whole ∙ ap (take spans.len) (sym is) in
-          subst (Consumes old new) front (Consumes-then old now new bytes (take n ahead) taken more)
+          let front = front_taken spans.len (omega arith) within.section.len_fits in
+          subst (Consumes old new) front
+          (Consumes-then old now new bytes (take (spans.len - length bytes) ahead) taken more)
 
       TakesHead-made : (tree : F.Tree) (m : Message) → IsHeadAt F all fields spans tree → m ≡ front_message all fields spans → TakesHead F old new m
       TakesHead-made tree m at made =
@@ -71,32 +107,20 @@ module _ (F : Form) (laws : Laws F) where
       TakesHead-result (Ok m) at made = TakesHead-made at.0 m at.1 made
       TakesHead-result (Err fault) at made = tt
 
-    -- one byte more, which is refused
-    before : count ≡ 1 → 0 < length ahead → IsUndecidedBefore F all
-    before one some front last e =
-        let sum : length bytes + length (take count ahead) ≡ length front + 1 =
-        sym (length-append bytes (take count ahead)) ∙ ap length (sym is ∙ e) ∙ length-append front (last ∷ []) in
-        let same = same_split bytes (take count ahead) front (last ∷ []) (sym is ∙ e) (omega (arith, length-take count ahead)) in
-        subst (IsUndecided F) same.0 undecided
-
-    refuses : (left : Option (List ℕ)) (fault : ReadFault) → IsUndecidedBefore F all → RefusesHead F all fault → Refuses F all left fault
-    refuses left Malformed first never = inl (record { never = never; before = first; size = size })
-    refuses left (HostMissingOrRepeated is_head) first h = absurd h
-    refuses left (LengthMissing is_head) first h = absurd h
-    refuses left (BodyTooLong is_head) first h = absurd h
-    refuses left HeadTooLong first h =
-        elim h [ inl limit ↦ inl limit | inr fields ↦ inr (record { exceeds = fields.0; overflows = fields.1; before = first; size = size }) ]
-    refuses left (TransferCoding is_head) first h = absurd h
-    refuses left (Expectation is_head) first h = absurd h
-    refuses left EndedEarly first h = absurd h
-    refuses left ReadFailed first h = absurd h
-    refuses left OutOfMemory first h = absurd h
-    refuses left TurnsExhausted first h = absurd h
-
-    pub TakesRefused-parse : (fault : ReadFault) → Consumes now new (take count ahead) → count ≡ 1 → 0 < length ahead → RefusesHead F all fault → TakesRefused F old new fault
-    TakesRefused-parse fault more one some h =
-        let whole = subst (Consumes old new) (sym is) (Consumes-then old now new bytes (take count ahead) taken more) in
-        (all, whole, refuses new fault (before one some) h)
+    -- what was taken is the shortest front that is refused
+    pub TakesRefused-first : (refusal : Refusal) → IsFirstRefusal F all (length bytes) refusal
+        → Consumes now new (take (refusal.length - length bytes) ahead) → TakesRefused F old new refusal.fault
+    TakesRefused-first refusal first more =
+        let after = first.after in
+        let front = front_taken refusal.length (omega arith) first.within in
+        let whole = subst (Consumes old new) front
+        (Consumes-then old now new bytes (take (refusal.length - length bytes) ahead) taken more) in
+        let short : length (take refusal.length all) ≤ head_limit = omega (arith, length-take refusal.length all) in (
+          take refusal.length all,
+          whole,
+          refuses (take refusal.length all) short new refusal.fault
+              (one_before all refusal.length (omega arith) first.within first.before) first.refused,
+        )
 
   -- memory for a whole head wanted
   pub TakesRefused-memory : (old now new : Option (List ℕ)) (bytes more : List ℕ) (r : Result Message ReadFault) → Consumes old now bytes → Consumes now new more

@@ -10,6 +10,7 @@ pub mod JudgeLemmas
 pub mod KnownLemmas
 pub mod ListLemmas
 pub mod MessageLemmas
+pub mod RefusalLemmas
 pub mod ResponseLemmas
 pub mod SendLemmas
 pub mod SpanLemmas

@@ -1,17 +1,27 @@
 -- The steps of reading a message.
-use Rattle.std.specs.Prelude.{◌≡◌, ℕ, ◌-◌, ◌<◌, ◌≤◌, ◌⊎◌, List, [], ◌++◌, length, Option}
+use Rattle.std.specs.Prelude.{◌≡◌, ℕ, ◌+◌, ◌-◌, ◌<◌, ◌≤◌, ◌⊎◌, List, [], ◌++◌, length, take, Option}
 use Rattle.std.specs.Io.KnownBytes.{Keeps, Consumes, IsAtEnd}
 use Rattle.http_text.specs.declared.fault.ReadFault.{ReadFault}
 use Rattle.http_text.specs.declared.fault.ReadFault.TheVariants.{Malformed, HostMissingOrRepeated, LengthMissing, BodyTooLong, HeadTooLong, TransferCoding, Expectation, EndedEarly, ReadFailed, OutOfMemory, TurnsExhausted}
+use Rattle.http_text.specs.declared.parsing.Refusal.{Refusal}
 use Rattle.http_text.specs.Counts.{Reading, count_up, HasRisen}
 use Rattle.http_text.specs.Message.{Message, field_limit}
 use Rattle.http_text.specs.Forms.{Form, IsHead}
-use Rattle.http_text.specs.Heads.{NeverHas, Exceeds, Overflows, IsHeadAtLimit}
+use Rattle.http_text.specs.Heads.{NeverHas, Exceeds, Overflows, IsHeadAtLimit, IsUndecided}
 
 -- from `before` turns left to `after`, each of them a call
 pub record SpendsTurns (old new : Reading) (before after : ℕ) : Type 0 where
   pub left : after ≤ before
   pub calls : new.calls ≡ count_up old.calls (before - after)
+
+-- how often as many bytes as a head may have are halved until one is left
+abbrev pub most_halvings : ℕ
+most_halvings = 14
+
+-- From `old` parses of a head to `new`: one for each read at most, one for the bytes that an earlier read left, and as
+-- many as halve the bytes that are refused
+abbrev pub CountsParses : (old new before after : ℕ) → Type 0
+CountsParses old new before after = new ≤ old + (before - after) + 1 + most_halvings
 
 -- a failure was counted, or no turn is left; otherwise no read failed
 abbrev pub EndsTurns : Reading → Reading → ℕ → ReadFault → Type 0
@@ -61,6 +71,13 @@ module _ (F : Form) where
   RefusesHead bytes ReadFailed = ⊥
   RefusesHead bytes OutOfMemory = ⊥
   RefusesHead bytes TurnsExhausted = ⊥
+
+  -- the shortest front of the bytes that is refused, and its fault
+  pub record IsFirstRefusal (bytes : List ℕ) (undecided : ℕ) (refusal : Refusal) : Type 0 where
+    pub after : undecided < refusal.length
+    pub within : refusal.length ≤ length bytes
+    pub before : IsUndecided F (take (refusal.length - 1) bytes)
+    pub refused : RefusesHead (take refusal.length bytes) refusal.fault
 
   -- exactly the bytes of a head were taken, and nothing of a body
   abbrev pub TakesHead : Option (List ℕ) → Option (List ℕ) → Message → Type 0

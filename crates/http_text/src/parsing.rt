@@ -1,9 +1,13 @@
 //! Parses the heads of requests and responses.
-ghost use Rattle.std.specs.Prelude.{◌≡◌, ◌≤◌, length};
+ghost use Rattle.std.specs.Prelude.{◌≡◌, ◌+◌, ◌≤◌, ◌<◌, length, take};
+ghost use Rattle.http_text.specs.Counts.{count_up};
+ghost use Rattle.http_text.specs.Heads.{IsUndecided};
 ghost use Rattle.http_text.specs.Message.{head_limit, field_limit};
 ghost use Rattle.http_text.specs.Forms.{request_form, response_form};
 ghost use Rattle.http_text.specs.Parsing.{form_of, spans_of_request, spans_of_response, Parses};
+ghost use Rattle.http_text.specs.Steps.{IsFirstRefusal, RefusesHead, most_halvings};
 
+use crate::counts::count;
 use crate::fault::ReadFault;
 use crate::incoming::Incoming;
 use crate::judge::{judge_request, judge_response};
@@ -43,16 +47,68 @@ pub(crate) enum Parse {
     Refused(ReadFault),
 }
 
+/// Bytes that are refused: how many they are, and the fault.
+#[derive(Clone, Copy)]
+pub(crate) struct Refusal {
+    pub(crate) length: usize,
+    pub(crate) fault: ReadFault,
+}
+
 impl MessageKind {
-    /// The parts of a whole head at the front of these bytes, or whether more bytes may complete one.
-    pub(crate) fn parse(self, bytes: &[u8], fields: &mut [HeaderSpan]) -> Parse
+    /// The parts of a whole head at the front of these bytes, or whether more bytes may complete one. It counts the
+    /// call.
+    pub(crate) fn parse(self, bytes: &[u8], fields: &mut [HeaderSpan], parses: &mut u64) -> Parse
         requires room { length fields.old ≡ field_limit }
         requires bound { length bytes.now ≤ head_limit }
-        ensures { Parses (form_of self) bytes.now fields.new result }
+        ensures parsed { Parses (form_of self) bytes.now fields.new result }
+        ensures counted { parses.new ≡ count_up parses.old 1 }
     {
+        count(parses);
         match self {
             MessageKind::Request => parse_request_head(bytes, fields),
             MessageKind::Response => parse_response_head(bytes, fields),
+        }
+    }
+
+    /// The shortest front of some bytes that is refused. All of them are, with this fault, and the first `undecided` of
+    /// them aren't. Each call of `parse` halves the bytes that may decide it.
+    pub(crate) fn first_refusal(
+        self,
+        bytes: &[u8],
+        undecided: usize,
+        fault: ReadFault,
+        fields: &mut [HeaderSpan],
+        parses: &mut u64,
+    ) -> Refusal
+        requires room { length fields.old ≡ field_limit }
+        requires bound { length bytes.now ≤ head_limit }
+        requires begun { undecided < length bytes.now }
+        requires before { IsUndecided (form_of self) (take undecided bytes.now) }
+        requires refused { RefusesHead (form_of self) bytes.now fault }
+        ensures first { IsFirstRefusal (form_of self) bytes.now undecided result }
+        ensures counted { parses.new ≤ parses.old + most_halvings }
+    {
+        let mut low = undecided;
+        let mut high = bytes.len();
+        let mut fault = fault;
+        'halve: while high - low > 1 {
+            let middle = low + (high - low) / 2;
+            match self.parse(&bytes[..middle], fields, parses) {
+                Parse::Part => low = middle,
+                Parse::Refused(earlier) => {
+                    high = middle;
+                    fault = earlier;
+                }
+                // No front of refused bytes is a head.
+                Parse::Whole(_) => return Refusal {
+                    length: high,
+                    fault,
+                },
+            }
+        }
+        Refusal {
+            length: high,
+            fault,
         }
     }
 

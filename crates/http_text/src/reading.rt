@@ -1,10 +1,10 @@
 //! Reads a message of either form from a stream.
-ghost use Rattle.std.specs.Prelude.{◌≡◌, ◌<◌, length, OnOk, IfOk, IfErr};
+ghost use Rattle.std.specs.Prelude.{◌≡◌, ◌<◌, [], length, OnOk, IfOk, IfErr};
 ghost use Rattle.std.specs.Io.KnownBytes.{Keeps};
 ghost use Rattle.http_text.specs.Counts.{CountsTurns};
 ghost use Rattle.http_text.specs.Heads.{TakesMessage, TakesRefused, FindsMessage, FindsRefusedHead, FindsEnd, FindsLong, FindsMalformed, EndsReading};
 ghost use Rattle.http_text.specs.Parsing.{form_of};
-ghost use Rattle.http_text.specs.Steps.{SpendsTurns, EndsTurns, GivesNone, TakesHead, TakesBody, CutsBody};
+ghost use Rattle.http_text.specs.Steps.{CountsParses, SpendsTurns, EndsTurns, GivesNone, TakesHead, TakesBody, CutsBody};
 
 use crate::fault::ReadFault;
 use crate::incoming::Incoming;
@@ -35,14 +35,17 @@ pub(crate) fn read_message<R: Read>(
     ensures fault { IfErr result (EndsReading reader.old reader.new) }
 {
     let mut turns = TURN_LIMIT;
-    read_whole(alloc, kind, reader, &mut turns)
+    let mut parses = 0;
+    read_whole(alloc, kind, reader, &mut turns, &mut parses)
 }
 
+/// Reads one message of this kind. It counts how often the head is parsed.
 fn read_whole<R: Read>(
     alloc: Global,
     kind: MessageKind,
     reader: &mut Input<R>,
     turns: &mut u32,
+    parses: &mut u64,
 ) -> Result<Incoming, ReadFault>
     ensures message { IfOk result
         (TakesMessage (form_of kind) reader.old.remaining reader.new.remaining) }
@@ -51,20 +54,22 @@ fn read_whole<R: Read>(
     ensures counts { SpendsTurns reader.old reader.new turns.old turns.new }
     ensures clean { OnOk result (reader.new.failures ≡ reader.old.failures) }
     ensures fault { IfErr result (EndsTurns reader.old reader.new turns.new) }
+    ensures parses { CountsParses parses.old parses.new turns.old turns.new }
 {
-    let mut message = read_head(alloc, kind, reader, turns)?;
+    let mut message = read_head(alloc, kind, reader, turns, parses)?;
     let length = kind.judge(&message)?;
     read_body(alloc, reader, &mut message, length, turns)?;
     Ok(message)
 }
 
-/// Reads up to the end of a head, and parses it whenever new bytes have come. If they are refused, it tries
-/// half of them, so that each refusal comes at the first byte that decides it.
+/// Reads up to the end of a head, and parses it once whenever new bytes have come. If they are refused, it looks for
+/// the first of them that decides it. It counts how often the head is parsed.
 fn read_head<R: Read>(
     alloc: Global,
     kind: MessageKind,
     reader: &mut Input<R>,
     turns: &mut u32,
+    parses: &mut u64,
 ) -> Result<Incoming, ReadFault>
     ensures head { IfOk result
         (TakesHead (form_of kind) reader.old.remaining reader.new.remaining) }
@@ -73,30 +78,27 @@ fn read_head<R: Read>(
     ensures counts { SpendsTurns reader.old reader.new turns.old turns.new }
     ensures clean { OnOk result (reader.new.failures ≡ reader.old.failures) }
     ensures fault { IfErr result (EndsTurns reader.old reader.new turns.new) }
+    ensures parses { CountsParses parses.old parses.new turns.old turns.new }
 {
     let mut bytes = Vec::new(alloc);
     let mut fields = [EMPTY_HEADER_SPAN; FIELD_LIMIT];
-    let mut step = HEAD_LIMIT;
     loop {
         look_ahead(alloc, reader, turns)?;
         let before = bytes.len();
-        let count = step.min(reader.ahead().len()).min(HEAD_LIMIT - before);
+        let count = reader.ahead().len().min(HEAD_LIMIT - before);
         if bytes.extend_from_slice(&reader.ahead()[..count]).is_err() {
             return Err(ReadFault::OutOfMemory);
         }
-        match kind.parse(&bytes, &mut fields) {
+        match kind.parse(&bytes, &mut fields, parses) {
             Parse::Whole(spans) => {
                 reader.take(spans.len - before);
                 return Incoming::from_head(alloc, bytes, spans, &fields);
             }
             Parse::Part => reader.take(count),
-            Parse::Refused(fault) if count == 1 => {
-                reader.take(count);
-                return Err(fault);
-            }
-            Parse::Refused(_) => {
-                bytes.truncate(before);
-                step = count / 2;
+            Parse::Refused(fault) => {
+                let refusal = kind.first_refusal(&bytes, before, fault, &mut fields, parses);
+                reader.take(refusal.length - before);
+                return Err(refusal.fault);
             }
         }
     }
@@ -137,6 +139,7 @@ fn look_ahead<R: Read>(
 ) -> Result<(), ReadFault>
     ensures kept { OnOk result (Keeps reader.old.remaining reader.new.remaining) }
     ensures some { OnOk result (0 < length reader.new.ahead) }
+    ensures spent { OnOk result (reader.old.ahead ≡ [] → turns.new < turns.old) }
     ensures none { IfErr result (GivesNone reader.old.remaining reader.new.remaining) }
     ensures counts { SpendsTurns reader.old reader.new turns.old turns.new }
     ensures clean { OnOk result (reader.new.failures ≡ reader.old.failures) }

@@ -21,7 +21,7 @@ pub(crate) fn message_in(
 {
     let front = &bytes[..bytes.len().min(HEAD_LIMIT)];
     let mut fields = [EMPTY_HEADER_SPAN; FIELD_LIMIT];
-    match kind.parse(front, &mut fields) {
+    match kind.parse(front, &mut fields, &mut 0) {
         Parse::Whole(spans) => {
             let copy = Vec::from_slice(alloc, front)?;
             match Incoming::from_head(alloc, copy, spans, &fields) {

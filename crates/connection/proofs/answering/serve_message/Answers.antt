@@ -21,3 +21,6 @@ returns-in-Ok-clause-replied g c =
 
 pub returns-in-Err-clause-replied : goal.returns-in-Err-clause-replied
 returns-in-Err-clause-replied g c = (fixed_reply, (fixed_reply, refl, inr (record { reply_is = refl; rows = c.in-Err.ensures.same })), c.send_fixed.ensures.sent)
+
+pub returns-in-Err-clause-stops : goal.returns-in-Err-clause-stops
+returns-in-Err-clause-stops g c = λ stops. inr (fixed_reply, refl, c.send_fixed.ensures.sent)

@@ -1,4 +1,4 @@
-use Rattle.std.proofs.Common.{◌≡◌, ◌+◌, ◌-◌, ◌*◌, ◌<◌, ◌≤◌, length, vec_len}
+use Rattle.std.proofs.Common.{◌≡◌, ◌⊎◌, ◌+◌, ◌-◌, ◌<◌, ◌≤◌, [], length, vec_len}
 use Rattle.std.specs.Io.KnownBytes.{Consumes}
 use Rattle.http_text.specs.Message.{head_limit}
 use Rattle.http_text.specs.Heads.{IsUndecided}
@@ -12,12 +12,12 @@ invariant-loop-bytes g l = record {
   taken : Consumes l.fn.reader.remaining l.reader.remaining l.bytes.items;
   undecided : IsUndecided (form_of l.kind) l.bytes.items;
   size : length l.bytes.items < head_limit;
-  some : 0 < l.step;
-  within : l.step ≤ head_limit;
   counts : SpendsTurns l.fn.reader l.reader l.fn.turns l.turns;
   clean : l.reader.failures ≡ l.fn.reader.failures;
+  parses : (l.parses ≡ l.fn.parses)
+      ⊎ ((l.reader.ahead ≡ []) × (l.parses ≤ l.fn.parses + (l.fn.turns - l.turns) + 1));
 }
 
--- each turn adds bytes, or tries fewer of them
+-- each turn adds bytes
 abbrev pub decreases-loop-bytes : goal.decreases-loop-bytes
-decreases-loop-bytes g l = (head_limit - vec_len l.bytes) * 16385 + l.step
+decreases-loop-bytes g l = head_limit - vec_len l.bytes

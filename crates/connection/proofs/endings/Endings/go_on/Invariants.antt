@@ -1,10 +1,9 @@
-use Rattle.std.proofs.Common.{◌≤◌, ◌-◌, vec_len}
+use Rattle.std.proofs.Common.{◌≤◌, vec_len}
 use Rattle.connection.proofs.endings.Endings.go_on.Given as goal
 
--- none came to them
-abbrev pub invariant-loop-place : goal.invariant-loop-place
-invariant-loop-place g l = vec_len l.self.endings ≤ vec_len l.initial.self.endings
-
--- how many weren't looked at yet
-abbrev pub decreases-loop-place : goal.decreases-loop-place
-decreases-loop-place g l = vec_len l.self.endings - l.place
+-- none came to them, and no more were looked at than one call looks at
+abbrev pub invariant-loop : goal.invariant-loop
+invariant-loop g l = record {
+  fewer : vec_len l.self.endings ≤ vec_len l.initial.self.endings;
+  few : l.looks ≤ 16;
+}

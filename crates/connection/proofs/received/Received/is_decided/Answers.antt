@@ -1,4 +1,4 @@
-use Rattle.std.proofs.Common.{◌∙◌, ap, sym, subst, inl, refl}
+use Rattle.std.proofs.Common.{◌≡◌, inl, sym, subst}
 use Rattle.http_text.specs.Forms.{request_form}
 use Rattle.http_text.specs.Heads.{IsUnfinished}
 use Rattle.connection.specs.Arriving.{Waits}
@@ -6,6 +6,7 @@ use Rattle.connection.proofs.received.Received.is_decided.Goals as goal
 
 pub returns-clause-waits : goal.returns-clause-waits
 returns-clause-waits c =
-    let part : IsUnfinished request_form c.deref-else-is_framed.result.now = c.if-not-is_part.ensures refl in
-    let same = c.deref-else-is_framed.ensures.value ∙ ap (λ bytes. bytes.items) (sym c.measure.ensures) in
-    ∣ subst Waits same (inl part) ∣₁
+    let unfinished : IsUnfinished request_form c.args.self.now.bytes.items =
+    subst (IsUnfinished request_form) c.deref.ensures.value (c.is_part.ensures c.if-not-is_part.false) in
+    let same : c.note.new.self.bytes.items ≡ c.args.self.now.bytes.items = cc in
+    ∣ subst Waits (sym same) (inl unfinished) ∣₁

@@ -13,4 +13,4 @@ returns-in-Some-clause-waits c =
     (λ has. part_waits bytes c.in-Some.whole (subst (λ (whole : Option ℕ). IfSome whole (HasLength bytes)) c.in-Some.is has) short)
 
 pub returns-in-None-clause-waits : goal.returns-in-None-clause-waits
-returns-in-None-clause-waits c = ∥∥₁_map (c.if-is_put_off.ensures refl) inr
+returns-in-None-clause-waits c = ∥∥₁_map (c.if-is_put_off.ensures.waits refl) inr

@@ -10,4 +10,5 @@ invariant_of-self c =
       undecided = ∣ subst (AreUndecided bytes) count
           (all_undecided bytes c.requires.unfinished (subst (HasExtent bytes) c.in-PartOfHead.is c.requires.extent)) ∣₁;
       length = c.args.self.now.length;
+      followed = c.args.self.now.followed;
     }

@@ -1,5 +1,5 @@
 use Rattle.std.proofs.Common.{◌<◌, vec_len, IfSome}
-use Rattle.connection.proofs.endings.Endings.stillest.Given as goal
+use Rattle.connection.proofs.endings.Endings.drained.Given as goal
 
 -- what was found is a place
 abbrev pub invariant-loop-place : goal.invariant-loop-place

@@ -1,0 +1,68 @@
+//! Where a head ends, by its line ends alone.
+ghost use Rattle.std.specs.Prelude.{◌≡◌, ◌↔◌, IsTrue};
+ghost use Rattle.connection.specs.Lines as spec;
+ghost use Rattle.connection.specs.declared.lines.HeadLines.TheVariants.{Ended};
+
+/// How far the lines of a head are that arrives. An empty line ends it, after its first line.
+#[derive(Clone, Copy)]
+pub(crate) enum HeadLines {
+    /// Only line ends have come.
+    Blank,
+    /// Within a line.
+    Inside,
+    /// At the beginning of a line that isn't the first.
+    Start,
+    /// There too, after a carriage return.
+    Return,
+    /// Behind the empty line.
+    Ended,
+}
+
+impl HeadLines {
+    /// After one more byte.
+    fn after(self, byte: u8) -> HeadLines
+        ensures { result ≡ spec.line_after self byte }
+    {
+        match self {
+            HeadLines::Blank => if byte == b'\n' || byte == b'\r' {
+                HeadLines::Blank
+            } else {
+                HeadLines::Inside
+            }
+            HeadLines::Inside => if byte == b'\n' {
+                HeadLines::Start
+            } else {
+                HeadLines::Inside
+            }
+            HeadLines::Start => match byte {
+                b'\n' => HeadLines::Ended,
+                b'\r' => HeadLines::Return,
+                _ => HeadLines::Inside,
+            }
+            HeadLines::Return => if byte == b'\n' {
+                HeadLines::Ended
+            } else {
+                HeadLines::Inside
+            }
+            HeadLines::Ended => HeadLines::Ended,
+        }
+    }
+
+    /// Whether a head that begins like this may be whole.
+    pub(crate) fn have_ended(self) -> bool
+        ensures { IsTrue result ↔ (self ≡ Ended) }
+    {
+        matches!(self, HeadLines::Ended)
+    }
+}
+
+/// How far the lines are after these bytes.
+pub(crate) fn lines_after(lines: HeadLines, bytes: &[u8]) -> HeadLines
+    ensures { result ≡ spec.lines_after lines bytes.now }
+{
+    let mut reached = lines;
+    for byte in bytes {
+        reached = reached.after(*byte);
+    }
+    reached
+}
