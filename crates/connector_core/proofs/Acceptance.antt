@@ -4,7 +4,7 @@ use Rattle.std.proofs.lemmas.Bool.{and_parts, cases_Bool, false≢true, false_fr
 use Rattle.std.specs.List.{list_all, position_from}
 use Rattle.scim_key.proofs.RevisionLaws.{irreflexive, transitive, total}
 use Rattle.scim_key.specs.Revisions.{RevisionValue, before, ◌≺◌}
-use Rattle.source_csv.proofs.RowLemmas.{row_from_test, row_itself}
+use Rattle.mapping.proofs.RowLemmas.{row_from_test, row_itself}
 use Rattle.source_csv.specs.Records.{row_name, row_revision, same_row}
 use Rattle.source_csv.specs.declared.rows.Row.{Row}
 use Rattle.connector_core.specs.Accepting.{Accepts, Accepts.older, Accepts.known, Accepts.differs, Accepts.missing, Accepts.new, IsNewer, accepted, accepting, newer}

@@ -1,14 +1,15 @@
 -- What the calls of a journal in memory make of its entries.
-use Rattle.std.proofs.Common.{◌≡◌, ℕ, List, [], ◌∷◌, Option, Some, None, IsSome, map, refl, ap, sym, subst, ◌∙◌, inl, inr, Result, Ok, min, ◌+◌, ◌-◌, ◌^◌, arith}
+use Rattle.std.proofs.Common.{◌≡◌, ℕ, List, [], ◌∷◌, Option, Some, None, IsSome, ◌++◌, map, refl, ap, sym, subst, append_assoc, ◌∙◌, inl, inr, Result, Ok, min, ◌+◌, ◌-◌, ◌^◌, arith}
 use Rattle.std.proofs.lemmas.Bool.{cases_Bool}
 use Rattle.std.proofs.lemmas.List.Elements.{All-head, All-tail, All-map, All-weaker}
 use Rattle.std.specs.BTreeMap.{BTreeMap, Updates, IsOrdered, get as get_in, values}
-use Rattle.std.specs.FinMap.{from_entries, get}
+use Rattle.std.specs.FinMap.{from_entries, get, insert, get-entries, get-from_entries, same_map}
+use Rattle.std.specs.FinMap.Entries.{find}
 use Rattle.std.specs.List.{All, AllZip}
 use Rattle.std.specs.Option.{option_map}
 use Rattle.std.specs.Ordering.{is_eq}
 use Rattle.scim_key.proofs.RevisionLaws.{none_first}
-use Rattle.scim_key.specs.RecordOrder.{tied}
+use Rattle.scim_key.specs.RecordOrder.{names_total, tied}
 use Rattle.scim_key.specs.Records.{name_cmp}
 use Rattle.scim_key.specs.Revisions.{RevisionValue}
 use Rattle.scim_key.specs.declared.records.RecordName.{RecordName}
@@ -21,7 +22,7 @@ use Rattle.journal_core.specs.Stores.{CountsFault}
 use Rattle.journal_core.specs.contracts.memory.MemoryJournalJournal.TheImpl as impl
 use Rattle.scim_key.specs.declared.stores.StoreFault.{StoreFault}
 use Rattle.journal_core.specs.declared.entries.Entry.{Entry}
-use Rattle.journal_core.proofs.Trees.{get-tree, insert-tree, entries-tree, name_from_test}
+use Rattle.journal_core.proofs.Trees.{get-tree, insert-tree, entries-tree, name_from_test, names_same}
 
 abbrev Tree : Type 0
 Tree = BTreeMap RecordName Entry
@@ -45,6 +46,11 @@ list-of tree lawful ordered found =
           (All-weaker (λ (e : RecordName × Entry). IsEntryOf e.0 e.1) (λ (e : RecordName × Entry). IsUpTo e.1.row e.1.confirmed) (λ e is. is.confirmed) tree.entries all);
     }
 
+-- a journal has the entries of its list
+pub of-list : (m : EntryMap) (list : List Entry) → IsListOf m list → from_entries (map named list) ≡ m
+of-list m list is = same_map names_total names_same _ _ (λ q.
+    get-from_entries names_total (map named list) q ∙ ap (find name_cmp q) (sym is.whole) ∙ sym (get-entries m q))
+
 -- ---- an entry is put
 
 same-value : (v w : Entry) → Some v ≡ Some w → v ≡ w
@@ -64,6 +70,17 @@ lawful-put old new name put lawful updates is q entry gets = elim (cases_Bool (i
 
 pub lawful-same : (old new : Tree) → AreLawful old → new.entries ≡ old.entries → AreLawful new
 lawful-same old new lawful same name entry gets = lawful name entry (rw (sym same) gets)
+
+-- the last entry of a list is put
+pub last-put : (old new : Tree) (all list rest taken : List Entry) (name : RecordName) (entry : Entry) → all ≡ list ++ taken → list ≡ rest ++ entry ∷ []
+    → entries_in old ≡ from_entries (map named taken) → AreLawful old → name ≡ row_name entry.row → IsUpTo entry.row entry.confirmed → Updates name_cmp old new name (Some entry)
+    → (now : List Entry) × (all ≡ rest ++ now) × (entries_in new ≡ from_entries (map named now)) × AreLawful new
+last-put old new all list rest taken name entry has last was lawful is up_to updates = (
+  entry ∷ taken,
+  has ∙ ap (λ l. l ++ taken) last ∙ append_assoc rest (entry ∷ []) taken,
+  insert-tree old new name entry updates ∙ ap (λ m. insert m name entry) was ∙ ap (λ n. insert (from_entries (map named taken)) n entry) is,
+  lawful-put old new name entry lawful updates (record { named = sym is; confirmed = up_to }),
+)
 
 -- ---- a row
 
@@ -125,7 +142,7 @@ learnt-put old new name confirmed id copy lawful can same updates =
 
 -- ---- a call that wrote
 
-abbrev after : EntryMap → ℕ → MemoryRecord
+abbrev pub after : EntryMap → ℕ → MemoryRecord
 after entries writes = record { entries = entries; writes = writes }
 
 abbrev answered : Result (Unit {0}) StoreFault

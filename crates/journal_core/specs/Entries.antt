@@ -58,10 +58,14 @@ pub record IsEntryOf (name : RecordName) (entry : Entry) : Type 0 where
 abbrev pub named : Entry → RecordName × Entry
 named entry = (row_name entry.row, entry)
 
+-- what each of these entries has confirmed may be confirmed
+abbrev pub AreUpTo : List Entry → Type 0
+AreUpTo list = All (λ entry. IsUpTo entry.row entry.confirmed) list
+
 -- the list has all entries in order of their names, and each is valid
 pub record IsListOf (map_ : EntryMap) (list : List Entry) : Type 0 where
   pub whole : entries map_ ≡ map named list
-  pub lawful : All (λ entry. IsUpTo entry.row entry.confirmed) list
+  pub lawful : AreUpTo list
 
 -- the most records of a type
 abbrev pub most_records : Kind → ℕ

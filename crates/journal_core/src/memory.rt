@@ -1,11 +1,11 @@
 //! A journal in memory.
-ghost use Rattle.std.specs.Prelude.{◌≡◌, IfErr, IfOk, OnOk, OnErr, IsSome, Some, refl};
+ghost use Rattle.std.specs.Prelude.{◌≡◌, false, map, IfErr, IfOk, OnOk, OnErr, IsSome, IsTrue, Some, refl};
 ghost use Rattle.std.specs.BTreeMap.{IsOrdered, Updates, get, values};
-ghost use Rattle.std.specs.FinMap.{empty};
+ghost use Rattle.std.specs.FinMap.{empty, from_entries};
 ghost use Rattle.std.specs.List.{All};
 ghost use Rattle.std.specs.Option.{option_map};
 ghost use Rattle.scim_key.specs.Records.{name_cmp};
-ghost use Rattle.journal_core.specs.Entries.{CanPutRow, CanPutRows, entry_learnt, entry_with, with_row, with_rows};
+ghost use Rattle.journal_core.specs.Entries.{AreUpTo, CanPutRow, CanPutRows, EntryMap, IsListOf, IsUpTo, entry_learnt, entry_with, named, with_row, with_rows};
 ghost use Rattle.journal_core.specs.Memory.{AreLawful, entries_in};
 ghost use Rattle.scim_key.specs.declared.stores.StoreFault.TheVariants.{Memory};
 
@@ -50,6 +50,46 @@ impl MemoryJournal {
             writes: 0,
         }
     }
+
+    /// A journal with the entries that another one listed. A list that no faithful journal gives is a fault of its store.
+    pub fn from_entries(alloc: Global, list: Vec<Entry>) -> Result<MemoryJournal, StoreFault>
+        ensures holds { (entries : EntryMap) → IsListOf entries list.items
+            → IfOk result (λ journal. journal ≡ record { entries = entries; writes = 0 }) }
+        ensures fault { (entries : EntryMap) → IsListOf entries list.items
+            → IfErr result (λ fault. fault ≡ Memory) }
+    {
+        let entries = tree_of(alloc, list)?;
+        Ok(MemoryJournal {
+            alloc,
+            entries,
+            writes: 0,
+        })
+    }
+}
+
+/// Whether the confirmed revision isn't above the row's.
+fn is_up_to(row: &Row, confirmed: Revision) -> bool
+    ensures is { IsTrue result → IsUpTo row.now confirmed }
+    ensures not { result ≡ false → IsUpTo row.now confirmed → ⊥ }
+{
+    !row.revision().is_before(confirmed)
+}
+
+/// The entries of a list, each under the name of its record.
+fn tree_of(alloc: Global, mut list: Vec<Entry>) -> Result<BTreeMap<RecordName, Entry>, StoreFault>
+    ensures lawful { IfOk result AreLawful }
+    ensures holds { IfOk result (λ tree. entries_in tree ≡ from_entries (map named list.items)) }
+    ensures fault { AreUpTo list.items → IfErr result (λ fault. fault ≡ Memory) }
+{
+    let mut entries = BTreeMap::new(alloc);
+    while let Some(entry) = list.pop() {
+        if !is_up_to(&entry.row, entry.confirmed) {
+            return Err(StoreFault::Store);
+        }
+        let name = entry.row.record_name(alloc)?;
+        entries.insert(name, entry)?;
+    }
+    Ok(entries)
 }
 
 /// Copies of the entries, in order of their names.

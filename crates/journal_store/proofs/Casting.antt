@@ -10,7 +10,7 @@ use Rattle.scim_key.specs.Revisions.{RevisionValue, confirmed_of_parts, revision
 use Rattle.scim_key.specs.declared.records.Kind.{Kind}
 use Rattle.scim_key.specs.declared.records.Kind.TheVariants.{User, Group}
 use Rattle.source_csv.specs.declared.rows.Row as source
-use Rattle.source_csv.specs.declared.texts.TheConstants.{TEXT_FIELD_COUNT}
+use Rattle.journal_store.specs.declared.places.TheConstants.{ACTIVE, CONFIRMED_EPOCH, EPOCH, GROUP_CONFIRMED, ID, KEY, MEMBERS, NAME, REVISION, USER_CONFIRMED}
 use Rattle.journal_core.specs.declared.entries.Entry.{Entry}
 use Rattle.journal_store.specs.Format.{column_count, entry_tables}
 use Rattle.journal_store.specs.Tables.{places}
@@ -83,32 +83,32 @@ parts_there (Some row) (Some confirmed) (Some id) x is =
 pub columns_kept : (kind : Kind) (s : Row) (e : Entry) → entry_in kind s ≡ Some e → cast_all (entry_tables kind).columns (columns_at (places 0 (column_count kind)) s) ≡ columns_at (places 0 (column_count kind)) s
 unfolding texts_in text_columns
 columns_kept User s e is =
-    let key = some_then (text_in (column s 0)) (λ k. keyed User k (fields_in User s)) e is in
+    let key = some_then (text_in (column s KEY)) (λ k. keyed User k (fields_in User s)) e is in
     let fields = keyed_same User key.0 (fields_in User s) e key.2 in
-    let parts = parts_there (user_in s) (confirmed_in (column s (7 + TEXT_FIELD_COUNT)) (column s (4 + TEXT_FIELD_COUNT))) (id_in (column s (5 + TEXT_FIELD_COUNT))) e fields in
-    let login = some_then (text_in (column s 1)) _ e.row parts.0 in
-    let revision = some_then (revision_in (column s (6 + TEXT_FIELD_COUNT)) (column s 2)) _ e.row login.2 in
+    let parts = parts_there (user_in s) (confirmed_in (column s (USER_CONFIRMED + CONFIRMED_EPOCH)) (column s USER_CONFIRMED)) (id_in (column s (USER_CONFIRMED + ID))) e fields in
+    let login = some_then (text_in (column s NAME)) _ e.row parts.0 in
+    let revision = some_then (revision_in (column s (USER_CONFIRMED + EPOCH)) (column s REVISION)) _ e.row login.2 in
     let texts = some_then (texts_in s) _ e.row revision.2 in
-    let active = some_then (active_in (column s (3 + TEXT_FIELD_COUNT))) _ e.row texts.2 in
-    let latest = parts_kept (column s (6 + TEXT_FIELD_COUNT)) (column s 2) revision_of_parts revision.0 revision.1 in
-    let confirmed = parts_kept (column s (7 + TEXT_FIELD_COUNT)) (column s (4 + TEXT_FIELD_COUNT)) confirmed_of_parts e.confirmed parts.1 in
-    let name_is = text_kept (column s 0) key.0 key.1 in
-    let login_is = text_kept (column s 1) login.0 login.1 in
+    let active = some_then (active_in (column s ACTIVE)) _ e.row texts.2 in
+    let latest = parts_kept (column s (USER_CONFIRMED + EPOCH)) (column s REVISION) revision_of_parts revision.0 revision.1 in
+    let confirmed = parts_kept (column s (USER_CONFIRMED + CONFIRMED_EPOCH)) (column s USER_CONFIRMED) confirmed_of_parts e.confirmed parts.1 in
+    let name_is = text_kept (column s KEY) key.0 key.1 in
+    let login_is = text_kept (column s NAME) login.0 login.1 in
     let texts_are = texts_kept (text_columns s) texts.0 texts.1 in
-    let active_is = number_cast (column s (3 + TEXT_FIELD_COUNT)) active_of active.0 active.1 in
-    let id_is = id_kept (column s (5 + TEXT_FIELD_COUNT)) e.id parts.2 in
+    let active_is = number_cast (column s ACTIVE) active_of active.0 active.1 in
+    let id_is = id_kept (column s (USER_CONFIRMED + ID)) e.id parts.2 in
     λ i. name_is i ∷ login_is i ∷ latest.1 i ∷ (texts_are i ++ active_is i ∷ confirmed.1 i ∷ id_is i ∷ latest.0 i ∷ confirmed.0 i ∷ [])
 columns_kept Group s e is =
-    let key = some_then (text_in (column s 0)) (λ k. keyed Group k (fields_in Group s)) e is in
+    let key = some_then (text_in (column s KEY)) (λ k. keyed Group k (fields_in Group s)) e is in
     let fields = keyed_same Group key.0 (fields_in Group s) e key.2 in
-    let parts = parts_there (group_in s) (confirmed_in (column s 7) (column s 4)) (id_in (column s 5)) e fields in
-    let name = some_then (text_in (column s 1)) _ e.row parts.0 in
-    let revision = some_then (revision_in (column s 6) (column s 2)) _ e.row name.2 in
-    let members = some_then (members_in (column s 3)) _ e.row revision.2 in
-    let latest = parts_kept (column s 6) (column s 2) revision_of_parts revision.0 revision.1 in
-    let confirmed = parts_kept (column s 7) (column s 4) confirmed_of_parts e.confirmed parts.1 in
-    let key_is = text_kept (column s 0) key.0 key.1 in
-    let name_is = text_kept (column s 1) name.0 name.1 in
-    let members_are = members_kept (column s 3) members.0 members.1 in
-    let id_is = id_kept (column s 5) e.id parts.2 in
+    let parts = parts_there (group_in s) (confirmed_in (column s (GROUP_CONFIRMED + CONFIRMED_EPOCH)) (column s GROUP_CONFIRMED)) (id_in (column s (GROUP_CONFIRMED + ID))) e fields in
+    let name = some_then (text_in (column s NAME)) _ e.row parts.0 in
+    let revision = some_then (revision_in (column s (GROUP_CONFIRMED + EPOCH)) (column s REVISION)) _ e.row name.2 in
+    let members = some_then (members_in (column s MEMBERS)) _ e.row revision.2 in
+    let latest = parts_kept (column s (GROUP_CONFIRMED + EPOCH)) (column s REVISION) revision_of_parts revision.0 revision.1 in
+    let confirmed = parts_kept (column s (GROUP_CONFIRMED + CONFIRMED_EPOCH)) (column s GROUP_CONFIRMED) confirmed_of_parts e.confirmed parts.1 in
+    let key_is = text_kept (column s KEY) key.0 key.1 in
+    let name_is = text_kept (column s NAME) name.0 name.1 in
+    let members_are = members_kept (column s MEMBERS) members.0 members.1 in
+    let id_is = id_kept (column s (GROUP_CONFIRMED + ID)) e.id parts.2 in
     λ i. key_is i ∷ name_is i ∷ latest.1 i ∷ members_are i ∷ confirmed.1 i ∷ id_is i ∷ latest.0 i ∷ confirmed.0 i ∷ []

@@ -23,7 +23,7 @@ use Rattle.source_csv.specs.Fields.{pieces}
 use Rattle.source_csv.specs.Records.{IsRow, row_name}
 use Rattle.source_csv.specs.Rows.{AreUserKeys, IsUserKey}
 use Rattle.source_csv.specs.declared.rows.Row as source
-use Rattle.source_csv.specs.declared.texts.TheConstants.{TEXT_FIELD_COUNT}
+use Rattle.journal_store.specs.declared.places.TheConstants.{CONFIRMED_EPOCH, GROUP_CONFIRMED, ID, KEY, USER_CONFIRMED}
 use Rattle.source_csv.specs.declared.rows.Row.TheVariants.{User, Group}
 use Rattle.journal_core.proofs.Trees.{name_from_test}
 use Rattle.journal_core.specs.declared.entries.Entry.{Entry}
@@ -120,15 +120,15 @@ keyed_from type key (Some x) e is = elim (cases_Bool (same_name (row_name x.row)
   | inr other ↦ absurd (cc (rw other at is))
 ]
 
-pub key_from : (type : Kind) (shown : Row) (e : Entry) → entry_in type shown ≡ Some e → (column shown 0 ≡ Text (row_name e.row).key) × ((row_name e.row).kind ≡ type)
-key_from type shown e is = go (text_in (column shown 0)) refl is
+pub key_from : (type : Kind) (shown : Row) (e : Entry) → entry_in type shown ≡ Some e → (column shown KEY ≡ Text (row_name e.row).key) × ((row_name e.row).kind ≡ type)
+key_from type shown e is = go (text_in (column shown KEY)) refl is
   where
-    go : (o : Option (List ℕ)) → text_in (column shown 0) ≡ o → option_and_then (λ key. keyed type key (fields_in type shown)) o ≡ Some e
-        → (column shown 0 ≡ Text (row_name e.row).key) × ((row_name e.row).kind ≡ type)
+    go : (o : Option (List ℕ)) → text_in (column shown KEY) ≡ o → option_and_then (λ key. keyed type key (fields_in type shown)) o ≡ Some e
+        → (column shown KEY ≡ Text (row_name e.row).key) × ((row_name e.row).kind ≡ type)
     go None at found = absurd (cc)
     go (Some key) at found =
         let name = keyed_from type key (fields_in type shown) e found in
-        (text_from (column shown 0) key at ∙ ap (λ (n : RecordName). Text n.key) (sym name), ap (λ (n : RecordName). n.kind) name)
+        (text_from (column shown KEY) key at ∙ ap (λ (n : RecordName). Text n.key) (sym name), ap (λ (n : RecordName). n.kind) name)
 
 -- an entry that a row shows has confirmed none or a valid revision
 confirmed_from : (row : Option source.Row) (o : Option RevisionValue) (id : Option (Option (List ℕ))) (e : Entry) → entry_by row o id ≡ Some e → o ≡ Some e.confirmed
@@ -139,10 +139,10 @@ confirmed_from (Some s) (Some r) (Some given) e is = let same : record { row = s
 
 fields_known : (type : Kind) (shown : Row) (e : Entry) → fields_in type shown ≡ Some e → IsNoneOrRevision e.confirmed
 fields_known kind.User shown e is =
-    columns_known (number_in (column shown (7 + TEXT_FIELD_COUNT))) (number_in (column shown (4 + TEXT_FIELD_COUNT))) e.confirmed
-    (confirmed_from (user_in shown) (confirmed_in (column shown (7 + TEXT_FIELD_COUNT)) (column shown (4 + TEXT_FIELD_COUNT))) (id_in (column shown (5 + TEXT_FIELD_COUNT))) e is)
+    columns_known (number_in (column shown (USER_CONFIRMED + CONFIRMED_EPOCH))) (number_in (column shown USER_CONFIRMED)) e.confirmed
+    (confirmed_from (user_in shown) (confirmed_in (column shown (USER_CONFIRMED + CONFIRMED_EPOCH)) (column shown USER_CONFIRMED)) (id_in (column shown (USER_CONFIRMED + ID))) e is)
 fields_known kind.Group shown e is =
-    columns_known (number_in (column shown 7)) (number_in (column shown 4)) e.confirmed (confirmed_from (group_in shown) (confirmed_in (column shown 7) (column shown 4)) (id_in (column shown 5)) e is)
+    columns_known (number_in (column shown (GROUP_CONFIRMED + CONFIRMED_EPOCH))) (number_in (column shown GROUP_CONFIRMED)) e.confirmed (confirmed_from (group_in shown) (confirmed_in (column shown (GROUP_CONFIRMED + CONFIRMED_EPOCH)) (column shown GROUP_CONFIRMED)) (id_in (column shown (GROUP_CONFIRMED + ID))) e is)
 
 pub keyed_same : (type : Kind) (key : List ℕ) (o : Option Entry) (e : Entry) → keyed type key o ≡ Some e → o ≡ Some e
 keyed_same type key None e is = absurd (cc)
@@ -152,7 +152,7 @@ keyed_same type key (Some x) e is = elim (cases_Bool (same_name (row_name x.row)
 ]
 
 pub known_from : (type : Kind) (shown : Row) (e : Entry) → entry_in type shown ≡ Some e → IsNoneOrRevision e.confirmed
-known_from type shown e is = go (text_in (column shown 0)) is
+known_from type shown e is = go (text_in (column shown KEY)) is
   where
     go : (o : Option (List ℕ)) → option_and_then (λ key. keyed type key (fields_in type shown)) o ≡ Some e → IsNoneOrRevision e.confirmed
     go None found = absurd (cc)

@@ -10,7 +10,7 @@ use Rattle.scim_key.specs.declared.records.Kind.{Kind}
 use Rattle.scim_key.specs.declared.records.Kind.TheVariants.{User, Group}
 use Rattle.source_csv.specs.Records.{row_name}
 use Rattle.source_csv.specs.declared.rows.Row as source
-use Rattle.source_csv.specs.declared.texts.TheConstants.{TEXT_FIELD_COUNT}
+use Rattle.journal_store.specs.declared.places.TheConstants.{CONFIRMED_EPOCH, GROUP_CONFIRMED, ID, KEY, USER_CONFIRMED}
 use Rattle.journal_core.specs.declared.entries.Entry.{Entry}
 use Rattle.journal_store.specs.Format.{entry_tables}
 use Rattle.journal_store.specs.Tables.{places}
@@ -43,17 +43,17 @@ module _ (confirmed : RevisionValue) (id : Option (List ℕ)) where
     pub shows_told : (kind : Kind) (s : Row) (e : Entry) → entry_in kind s ≡ Some e → entry_in kind (told_shown kind s) ≡ Some (told e)
     unfolding texts_in text_columns
     shows_told User s e is =
-        let key = some_then (text_in (column s 0)) (λ k. keyed User k (fields_in User s)) e is in
+        let key = some_then (text_in (column s KEY)) (λ k. keyed User k (fields_in User s)) e is in
         let given : keyed User key.0 (entry_by (user_in s) (confirmed_of_parts (revision_epoch confirmed) (revision_number confirmed)) (id_in (id_value id))) ≡ keyed User key.0 (entry_by (user_in s) (Some confirmed) (Some id)) =
         λ i. keyed User key.0 (entry_by (user_in s) (reads i) (id_back id i)) in
         ap (option_and_then (λ k. keyed User k (fields_in User (told_shown User s)))) key.1
-        ∙ given ∙ told_there User key.0 (user_in s) (confirmed_in (column s (7 + TEXT_FIELD_COUNT)) (column s (4 + TEXT_FIELD_COUNT))) (id_in (column s (5 + TEXT_FIELD_COUNT))) e key.2
+        ∙ given ∙ told_there User key.0 (user_in s) (confirmed_in (column s (USER_CONFIRMED + CONFIRMED_EPOCH)) (column s USER_CONFIRMED)) (id_in (column s (USER_CONFIRMED + ID))) e key.2
     shows_told Group s e is =
-        let key = some_then (text_in (column s 0)) (λ k. keyed Group k (fields_in Group s)) e is in
+        let key = some_then (text_in (column s KEY)) (λ k. keyed Group k (fields_in Group s)) e is in
         let given : keyed Group key.0 (entry_by (group_in s) (confirmed_of_parts (revision_epoch confirmed) (revision_number confirmed)) (id_in (id_value id))) ≡ keyed Group key.0 (entry_by (group_in s) (Some confirmed) (Some id)) =
         λ i. keyed Group key.0 (entry_by (group_in s) (reads i) (id_back id i)) in
         ap (option_and_then (λ k. keyed Group k (fields_in Group (told_shown Group s)))) key.1
-        ∙ given ∙ told_there Group key.0 (group_in s) (confirmed_in (column s 7) (column s 4)) (id_in (column s 5)) e key.2
+        ∙ given ∙ told_there Group key.0 (group_in s) (confirmed_in (column s (GROUP_CONFIRMED + CONFIRMED_EPOCH)) (column s GROUP_CONFIRMED)) (id_in (column s (GROUP_CONFIRMED + ID))) e key.2
 
     -- the columns keep it
     pub told_kept : (kind : Kind) (s : Row) (e : Entry) → entry_in kind s ≡ Some e → cast_all (entry_tables kind).columns (told_shown kind s) ≡ told_shown kind s

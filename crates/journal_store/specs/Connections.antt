@@ -24,6 +24,7 @@ use Rattle.sql_tables.specs.Layouts.{IsLaid as IsLaidBy}
 use Rattle.sqlite_schema.specs.declared.schema.Schema.{Schema}
 use Rattle.sql_tables.specs.Statements.{IsEditText as IsEditOf, Keeps}
 use Rattle.journal_store.specs.Format.{entry_tree, insert_text, journal_schema, update_text}
+use Rattle.journal_store.specs.declared.places.TheConstants.{CONFIRMED_EPOCH, ID, KEY}
 use Rattle.journal_store.specs.Rows.{IsLawfulId, IsReadable, confirmed_in, entry_in, id_in, row_of, shown_row, source_in, texts_of}
 
 -- ---- the tables of a connection
@@ -44,10 +45,10 @@ pub record ShowsSource (kind : Kind) (shown : Row) (row : source.Row) : Type 0 w
 -- above the source row's, and its id; the epochs of both revisions come last
 pub record ShowsRest (kind : Kind) (shown : Row) (row : source.Row) (after : ℕ) (entry : Entry) : Type 0 where
   pub row_is : entry.row ≡ row
-  pub key : column shown 0 ≡ Text (row_name row).key
+  pub key : column shown KEY ≡ Text (row_name row).key
   pub kind_is : (row_name row).kind ≡ kind
-  pub confirmed : confirmed_in (column shown (after + 3)) (column shown after) ≡ Some entry.confirmed
-  pub id_is : id_in (column shown (after + 1)) ≡ Some entry.id
+  pub confirmed : confirmed_in (column shown (after + CONFIRMED_EPOCH)) (column shown after) ≡ Some entry.confirmed
+  pub id_is : id_in (column shown (after + ID)) ≡ Some entry.id
   pub id : IsLawfulId entry.id
   pub within : entry.confirmed ≼ row_revision row
 
@@ -55,7 +56,7 @@ pub record ShowsRest (kind : Kind) (shown : Row) (row : source.Row) (after : ℕ
 -- source row's
 pub record Shows (kind : Kind) (shown : Row) (entry : Entry) : Type 0 where
   pub entry_is : entry_in kind shown ≡ Some entry
-  pub key : column shown 0 ≡ Text (row_name entry.row).key
+  pub key : column shown KEY ≡ Text (row_name entry.row).key
   pub kind_is : (row_name entry.row).kind ≡ kind
   pub lawful : IsRow entry.row
   pub texts : AllByRecursion IsReadable (texts_of kind shown)

@@ -25,6 +25,7 @@ use Rattle.journal_core.specs.declared.entries.Entry.{Entry}
 use Rattle.journal_store.specs.Format.{column_count, entry_tree}
 use Rattle.journal_store.specs.Tables.{places}
 use Rattle.journal_store.specs.declared.format.TheConstants.{TEXT_ORDER}
+use Rattle.journal_store.specs.declared.places.TheConstants.{ACTIVE, CONFIRMED_EPOCH, EPOCH, FIRST_TEXT, GROUP_CONFIRMED, ID, KEY, MEMBERS, NAME, REVISION, USER_CONFIRMED}
 
 -- ---- how an entry is written
 
@@ -122,7 +123,7 @@ columns_at at r = map (column r) at
 
 -- the columns with the texts of a user
 unfoldable pub text_columns : Row → List Value
-text_columns r = columns_at (places 3 TEXT_FIELD_COUNT) r
+text_columns r = columns_at (places FIRST_TEXT TEXT_FIELD_COUNT) r
 
 abbrev pub all_texts : List Value → Option (List (List ℕ))
 all_texts [] = Some []
@@ -136,17 +137,17 @@ texts_in r = all_texts (text_columns r)
 
 abbrev pub user_in : Row → Option source.Row
 user_in r = do
-  login ← text_in (column r 1)
-  revision ← revision_in (column r (6 + TEXT_FIELD_COUNT)) (column r 2)
+  login ← text_in (column r NAME)
+  revision ← revision_in (column r (USER_CONFIRMED + EPOCH)) (column r REVISION)
   texts ← texts_in r
-  active ← active_in (column r (3 + TEXT_FIELD_COUNT))
+  active ← active_in (column r ACTIVE)
   Some (User (record { login = login; revision = revision; texts = texts; active = active }))
 
 abbrev pub group_in : Row → Option source.Row
 group_in r = do
-  name ← text_in (column r 1)
-  revision ← revision_in (column r 6) (column r 2)
-  members ← members_in (column r 3)
+  name ← text_in (column r NAME)
+  revision ← revision_in (column r (GROUP_CONFIRMED + EPOCH)) (column r REVISION)
+  members ← members_in (column r MEMBERS)
   Some (Group (record { name = name; revision = revision; members = members }))
 
 -- the row of the source
@@ -163,9 +164,11 @@ entry_by row confirmed id = do
 
 abbrev pub fields_in : Kind → Row → Option Entry
 fields_in kind.User r =
-    entry_by (user_in r) (confirmed_in (column r (7 + TEXT_FIELD_COUNT))
-    (column r (4 + TEXT_FIELD_COUNT))) (id_in (column r (5 + TEXT_FIELD_COUNT)))
-fields_in kind.Group r = entry_by (group_in r) (confirmed_in (column r 7) (column r 4)) (id_in (column r 5))
+    entry_by (user_in r) (confirmed_in (column r (USER_CONFIRMED + CONFIRMED_EPOCH))
+    (column r USER_CONFIRMED)) (id_in (column r (USER_CONFIRMED + ID)))
+fields_in kind.Group r =
+    entry_by (group_in r) (confirmed_in (column r (GROUP_CONFIRMED + CONFIRMED_EPOCH))
+    (column r GROUP_CONFIRMED)) (id_in (column r (GROUP_CONFIRMED + ID)))
 
 -- the entry, if it is of the record with this key
 abbrev pub keyed : Kind → List ℕ → Option Entry → Option Entry
@@ -174,7 +177,7 @@ keyed type key (Some e) = if same_name (row_name e.row) (record { kind = type; k
 
 -- The entry that a row of a query shows, if each column has its form and the key is that of the name
 abbrev pub entry_in : Kind → Row → Option Entry
-entry_in type r = option_and_then (λ key. keyed type key (fields_in type r)) (text_in (column r 0))
+entry_in type r = option_and_then (λ key. keyed type key (fields_in type r)) (text_in (column r KEY))
 
 -- ---- texts
 
@@ -188,8 +191,8 @@ IsReadable (Blob b) = Unit {0}
 
 -- the texts of the row of the source
 abbrev pub texts_of : Kind → Row → List Value
-texts_of kind.User r = column r 1 ∷ text_columns r
-texts_of kind.Group r = column r 1 ∷ column r 3 ∷ []
+texts_of kind.User r = column r NAME ∷ text_columns r
+texts_of kind.Group r = column r NAME ∷ column r MEMBERS ∷ []
 
 -- a valid id, or none
 abbrev pub IsLawfulId : Option (List ℕ) → Type 0

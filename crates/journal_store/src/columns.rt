@@ -10,12 +10,16 @@ ghost use Rattle.sqlite_value.specs.declared.value.Value.TheVariants.{Text};
 ghost use Rattle.source_csv.specs.Fields.{pieces};
 ghost use Rattle.source_csv.specs.Records.{IsRow, row_name};
 ghost use Rattle.source_csv.specs.Rows.{AreUserKeys, IsUserKey};
-ghost use Rattle.source_csv.specs.declared.texts.TheConstants.{TEXT_FIELD_COUNT};
 ghost use Rattle.journal_store.specs.Connections.{Shows, ShowsNone, ShowsRest, ShowsSource};
 ghost use Rattle.journal_store.specs.Faults.{HasCause, IsOfRow};
+ghost use Rattle.journal_store.specs.declared.places.TheConstants.{KEY, USER_CONFIRMED};
 ghost use Rattle.journal_store.specs.declared.statements.TableFault.TheVariants.{Damaged};
 ghost use Rattle.journal_store.specs.Rows.{IsLawfulId, IsReadable, active_in, confirmed_in, group_in, id_in, revision_in, text_columns, texts_in, texts_of, user_in};
 
+use crate::places::{
+    ACTIVE, CONFIRMED_EPOCH, EPOCH, FIRST_TEXT, GROUP_CONFIRMED, ID, KEY, MEMBERS, NAME, REVISION,
+    USER_CONFIRMED,
+};
 use crate::statements::TableFault;
 use journal_core::Entry;
 use scim_key::{GroupName, Key, Kind, ResourceId, Revision, UserName};
@@ -166,7 +170,7 @@ fn members_of(alloc: Global, text: &str) -> Result<Vec<Key>, TableFault>
 fn text_cells(row: &Row) -> [ValueRef<'_>; TEXT_FIELD_COUNT]
     ensures { map owned result ≡ text_columns row.now }
 {
-    array::from_fn(|at| cell_at(row, 3 + at))
+    array::from_fn(|at| cell_at(row, FIRST_TEXT + at))
 }
 
 fn texts_at(alloc: Global, row: &Row) -> Result<[FieldValue; TEXT_FIELD_COUNT], TableFault>
@@ -185,10 +189,10 @@ fn user_at(alloc: Global, row: &Row) -> Result<SourceRow, TableFault>
     ensures none { IfErr result (HasCause ((user : _) → ShowsSource User row.now user → ⊥)) }
     ensures read { IfErr result IsOfRow }
 {
-    let login = UserName::read(alloc, text_at(row, 1)?)?;
-    let revision = revision_at(row, 6 + TEXT_FIELD_COUNT, 2)?;
+    let login = UserName::read(alloc, text_at(row, NAME)?)?;
+    let revision = revision_at(row, USER_CONFIRMED + EPOCH, REVISION)?;
     let texts = texts_at(alloc, row)?;
-    let active = active_at(row, 3 + TEXT_FIELD_COUNT)?;
+    let active = active_at(row, ACTIVE)?;
     match UserRow::new(login, revision, texts, active) {
         Some(user) => Ok(SourceRow::User(user)),
         None => Err(TableFault::Damaged),
@@ -201,9 +205,9 @@ fn group_at(alloc: Global, row: &Row) -> Result<SourceRow, TableFault>
     ensures none { IfErr result (HasCause ((group : _) → ShowsSource Group row.now group → ⊥)) }
     ensures read { IfErr result IsOfRow }
 {
-    let name = GroupName::read(alloc, text_at(row, 1)?)?;
-    let revision = revision_at(row, 6, 2)?;
-    let members = members_of(alloc, text_at(row, 3)?)?;
+    let name = GroupName::read(alloc, text_at(row, NAME)?)?;
+    let revision = revision_at(row, GROUP_CONFIRMED + EPOCH, REVISION)?;
+    let members = members_of(alloc, text_at(row, MEMBERS)?)?;
     match GroupRow::new(name, revision, members) {
         Some(group) => Ok(SourceRow::Group(group)),
         None => Err(TableFault::Damaged),
@@ -213,16 +217,16 @@ fn group_at(alloc: Global, row: &Row) -> Result<SourceRow, TableFault>
 /// Whether the first column has the key of the entry's record, which is of this type.
 fn has_its_key(alloc: Global, kind: Kind, row: &Row, source: &SourceRow) -> Result<bool, TableFault>
     ensures key { IfOk result (λ is. IsTrue is
-        → column row.now 0 ≡ Text (row_name source.now).key) }
+        → column row.now KEY ≡ Text (row_name source.now).key) }
     ensures kind { IfOk result (λ is. IsTrue is → (row_name source.now).kind ≡ kind) }
     ensures other { IfOk result (λ is. is ≡ false
-        → column row.now 0 ≡ Text (row_name source.now).key → (row_name source.now).kind ≡ kind
+        → column row.now KEY ≡ Text (row_name source.now).key → (row_name source.now).kind ≡ kind
         → ⊥) }
-    ensures none { IfErr result (HasCause (column row.now 0 ≡ Text (row_name source.now).key → ⊥)) }
+    ensures none { IfErr result (HasCause (column row.now KEY ≡ Text (row_name source.now).key → ⊥)) }
     ensures read { IfErr result IsOfRow }
 {
     let name = source.record_name(alloc)?;
-    Ok(name.kind == kind && bytes_at(row, 0) == Some(name.key.as_str().as_bytes()))
+    Ok(name.kind == kind && bytes_at(row, KEY) == Some(name.key.as_str().as_bytes()))
 }
 
 /// The entry of a row, given its source row.
@@ -233,15 +237,15 @@ fn entry_of(
     source: SourceRow,
     after: usize,
 ) -> Result<Entry, TableFault>
-    requires { after ≤ 4 + TEXT_FIELD_COUNT }
+    requires { after ≤ USER_CONFIRMED }
     ensures some { IfOk result (ShowsRest kind row.now source after) }
     ensures lawful { OnOk result (IsRow source) }
     ensures none { IfErr result (HasCause ((entry : _) → ShowsRest kind row.now source after entry
         → ⊥)) }
     ensures read { IfErr result IsOfRow }
 {
-    let confirmed = confirmed_at(row, after + 3, after)?;
-    let id = id_at(alloc, row, after + 1)?;
+    let confirmed = confirmed_at(row, after + CONFIRMED_EPOCH, after)?;
+    let id = id_at(alloc, row, after + ID)?;
     if !has_its_key(alloc, kind, row, &source)? || source.revision().is_before(confirmed) {
         return Err(TableFault::Damaged);
     }
@@ -259,13 +263,13 @@ pub(crate) fn read_entry(alloc: Global, kind: Kind, row: &Row) -> Result<Entry, 
     ensures read { IfErr result IsOfRow }
 {
     match kind {
-        Kind::User => entry_of(
+        Kind::User => entry_of(alloc, Kind::User, row, user_at(alloc, row)?, USER_CONFIRMED),
+        Kind::Group => entry_of(
             alloc,
-            Kind::User,
+            Kind::Group,
             row,
-            user_at(alloc, row)?,
-            4 + TEXT_FIELD_COUNT,
+            group_at(alloc, row)?,
+            GROUP_CONFIRMED,
         ),
-        Kind::Group => entry_of(alloc, Kind::Group, row, group_at(alloc, row)?, 4),
     }
 }

@@ -11,6 +11,7 @@ mod learning;
 mod making;
 mod older;
 mod opening;
+mod places;
 mod resets;
 mod statements;
 mod tables;

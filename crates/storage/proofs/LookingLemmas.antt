@@ -1,6 +1,6 @@
 -- A journal that was looked at.
 use Rattle.std.proofs.Common.{◌≡◌, Option, Some, None, MatchOption, Ok, inl, inr, refl, subst, sym}
-use Rattle.std.specs.Prelude.{⊤}
+use Rattle.std.specs.Prelude.{⊤, ◌⊎◌}
 use Rattle.sqlite_disk.specs.declared.Disk as disk
 use Rattle.sqlite_disk.specs.declared.Files.{Files}
 use Rattle.sqlite_store.specs.declared.store.FileStore.{FileStore}
@@ -14,7 +14,8 @@ use Rattle.journal_core.specs.Entries.{EntryMap}
 use Rattle.journal_core.specs.declared.journals.Journal.{Ghosts}
 use Rattle.journal_store.specs.Opening.{IsOlder, LeavesStanding}
 use Rattle.storage.specs.JournalOpened.{IsOpenedAt, KeepsTables}
-use Rattle.storage.specs.Looking.{IsUnseen, LooksOlder}
+use Rattle.journal_store.specs.Kept.{Kept}
+use Rattle.storage.specs.Looking.{FindsNoTables, IsUnseen, LooksAt, LooksOlder}
 use Rattle.storage.specs.declared.looking.LookFault.{LookFault}
 use Rattle.storage.specs.declared.looking.LookFault.TheVariants.{Older, Refused}
 
@@ -52,8 +53,15 @@ module _ {D : Type 0} {g : disk.Ghosts D} (conn now : Held (FileStore D g)) wher
       subst (λ h. HasCleanDisk (file_state h) → Finds files h × IsOlder (file_state h).now.schema) (sym unseen.0) (λ clean. (found clean, unseen.1))
   older_unseen (Refused fault) found unseen = tt
 
--- what is found here is found there
-pub found_there : {J : Type 0} (g : Ghosts J) {here there : EntryMap → Type 0} (seen : Option J) → ((entries : EntryMap) → here entries → there entries)
-    → MatchOption seen ⊤ (IsOpenedAt g here) → MatchOption seen ⊤ (IsOpenedAt g there)
-found_there g None leads is = is
-found_there g (Some journal) leads is = record { opened = is.opened; found = λ honest. leads (g.entries journal) (is.found honest) }
+module _ {D : Type 0} {g : disk.Ghosts D} where
+  -- what is found here is found there, and so are no tables
+  pub seen_there : (k : Ghosts (Kept (FileStore D g))) {here there : EntryMap → Type 0} {none : Type 0} (files : Files D) (seen : Option (Kept (FileStore D g)))
+      → ((entries : EntryMap) → here entries → there entries) → (FindsNoTables g files → none)
+      → MatchOption seen ⊤ (IsOpenedAt k here) → LooksAt files seen → MatchOption seen none (IsOpenedAt k there)
+  seen_there k files None leads misses is looks = misses looks
+  seen_there k files (Some journal) leads misses is looks = record { opened = is.opened; found = λ honest. leads (k.entries journal) (is.found honest) }
+
+-- nothing was found for one of two reasons
+pub or_none : {J : Type 0} (missing none : Type 0) (is : J → Type 0) (seen : Option J) → MatchOption seen none is → MatchOption seen (missing ⊎ none) is
+or_none missing none is None it = inr it
+or_none missing none is (Some journal) it = it

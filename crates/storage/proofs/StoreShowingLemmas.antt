@@ -1,5 +1,5 @@
 -- Some rows more are shown.
-use Rattle.std.proofs.Common.{◌≡◌, ℕ, ◌+◌, ◌≤◌, List, [], ◌++◌, Option, Some, None, length, take, drop, min, sym, ap, subst, ◌∙◌, refl, arith, append_assoc, append-nil}
+use Rattle.std.proofs.Common.{◌≡◌, ℕ, ◌+◌, ◌≤◌, List, [], ◌++◌, Option, Some, None, Result, Err, IfErr, length, take, drop, min, sym, ap, subst, ◌∙◌, refl, arith, append_assoc, append-nil}
 use Rattle.std.proofs.lemmas.Grind.{flat_map-append}
 use Rattle.std.proofs.Math.Seq.{take-add}
 use Rattle.std.proofs.lemmas.List.{take_all, take_min}
@@ -7,7 +7,10 @@ use Rattle.std.specs.Io.KnownBytes.{Appends}
 use Rattle.scim_resource.specs.Rows.{StoredRecord}
 use Rattle.provider_core.specs.declared.registry.Registry.{Ghosts}
 use Rattle.storage.specs.StoreLines.{row_line, lines_of}
+use Rattle.storage.specs.ShowFaults.{IsOfStore}
 use Rattle.storage.specs.StoreShowing.{ReadsOn}
+use Rattle.storage.specs.declared.show_fault.ShowFault.{ShowFault}
+use Rattle.storage.specs.declared.show_fault.ShowFault.TheVariants.{NoStore}
 
 pub appends_nothing : (known : Option (List ℕ)) → Appends known known []
 appends_nothing None = tt
@@ -67,3 +70,7 @@ module _ {R : Type 0} (g : Ghosts R) where
       let count = counted earlier in
       let short : length (g.rows old) ≤ all = omega (arith, count, ap length is) in
       subst (Appends before now) (ap lines_of (take_all after (g.rows old) (omega arith) ∙ is)) (showing.shown faithful short)
+
+-- a fault of a store that was there isn't that there is none
+pub never_missing : (missing : Type 0) (shown : Result (Unit {0}) ShowFault) → IfErr shown IsOfStore → shown ≡ Err NoStore → missing
+never_missing missing shown there is = absurd (subst (λ (r : Result (Unit {0}) ShowFault). IfErr r IsOfStore) is there)

@@ -1,3 +1,6 @@
+pub mod Places
+pub mod Reasons
+pub mod NotedFiles
 pub mod Closed
 pub mod StoreOpened
 pub mod StoreLines

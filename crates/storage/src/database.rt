@@ -4,180 +4,215 @@ ghost use Rattle.sqlite.specs.Closing.{IsCopied};
 ghost use Rattle.sqlite.specs.Files.{Finds, IsCleanLeft, IsOpened as IsConnected, LeavesFiles, file_state};
 ghost use Rattle.sqlite.specs.State.{HasCleanDisk};
 ghost use Rattle.sqlite_wal.specs.Reads.{AreClean};
+ghost use Rattle.storage.specs.Places.{IsMissing, IsMissingAt, IsVacant, MayBeOpened};
 
 use crate::host::DatabaseHost;
-use crate::reason::{DatabaseReason, code_of, failure_at, failure_of, failure_since};
+use crate::notes::Notes;
+use crate::places::{Found, IfMissing, Place, Standing, Step, judged, same_file};
+use crate::reason::{DatabaseReason, failure_of};
 use sqlite::{Connection, Error, ErrorCode, FileStore, Files, Leftover, Options};
 use sqlite_disk::Disk;
-use std::alloc::AllocGlobal;
-use std::cell::Cell;
-use std::fs;
+use sqlite_std_file::OpenError;
+use std::alloc::{AllocError, AllocGlobal};
 use std::fs::OpenOptions;
 use std::hash::{BuildHasher, RandomState};
-use std::io::ErrorKind;
+use std::io::{self, ErrorKind};
 use std::os::unix::fs::OpenOptionsExt;
 use std::random::RandomSource;
-use std::rt::Runtime;
 
 /// How many pages of a file a connection keeps in memory: 2 MB of pages of 4,096 bytes.
 const CACHE_PAGES: usize = 512;
 
-/// How the last opening of a file ended.
-#[derive(Clone, Copy)]
-pub(crate) enum Opening {
-    /// It wasn't opened, or it was refused: why, if that is known.
-    Refused(Option<DatabaseReason>),
-    /// It was opened to be read alone.
-    Looked,
-    Done,
-}
+/// The mode of a new file: only its owner reads and writes it. Its log gets the same mode.
+const PRIVATE: u32 = 0o600;
 
-/// A database file of SQLite. Its log is `path` with `-wal` at its end.
+/// A database file of SQLite. Its log is the path with `-wal` at its end.
 #[derive(Drop)]
 pub struct DatabaseFile<'a, H> {
     pub(crate) rt: &'a H,
-    pub(crate) path: &'a str,
-    last: Cell<Opening>,
+    pub(crate) place: &'a Place<'a>,
 }
 
 impl<'a, H: DatabaseHost> DatabaseFile<'a, H> {
-    /// The file at this path, which isn't opened yet.
-    pub fn new(rt: &'a H, path: &'a str) -> DatabaseFile<'a, H> {
-        DatabaseFile {
-            rt,
-            path,
-            last: Cell::new(Opening::Refused(None)),
-        }
+    /// The file at this place, which isn't opened yet.
+    pub fn new(rt: &'a H, place: &'a Place<'a>) -> DatabaseFile<'a, H> {
+        DatabaseFile { rt, place }
     }
 
-    /// Opens the file with its log, and makes them if they aren't there. That these are the files at the path, and
-    /// that no other call touches them, is no clause: this call is trusted for it.
-    pub(crate) fn open(&self) -> Result<Files<H::Disk>, Error>
+    /// Opens the file with its log. The first opening of a place makes the file if there is none, unless it must be
+    /// there; each later one takes the same file. Why files can't be used is kept at the place, from now on. That these
+    /// are the files at the path, and that no other call touches them, is no clause: this call is trusted for it.
+    pub(crate) fn open(&self, missing: IfMissing) -> Result<Files<H::Disk>, DatabaseReason>
         ensures log { IfOk result (λ files. IsTrue (H.Disk.Disk.is_usable files.log)) }
         ensures db { IfOk result (λ files. IsTrue (H.Disk.Disk.is_usable files.db)) }
         ensures given { IfOk result H.DatabaseHost.gives }
+        ensures missing { IfErr result (λ why. IsMissing why
+            → IsMissingAt (H.DatabaseHost.says self.now.rt.now) self.now.place.now.path.now) }
     {
-        self.keep(Opening::Refused(None));
-        match self.files() {
+        self.place.forget();
+        match self.files(missing) {
             Ok(files) => Ok(files),
             Err(reason) => {
-                self.keep(Opening::Refused(Some(reason)));
-                Err(Error::SqliteFailure(code_of(reason)))
+                self.place.keep(reason);
+                Err(reason)
             }
         }
     }
 
-    /// Keeps how an opening ended.
-    pub(crate) fn keep(&self, opening: Opening) {
-        self.last.set(opening);
-    }
-
-    /// The fault of files that were refused. Why they were is kept; what is left of them is dropped.
-    pub(crate) fn refused<F, D: Disk + Drop>(&self, refused: (F, Remains<D>)) -> F
-        ensures { result ≡ refused.0 }
+    /// The notes of the place, for the log and for the file.
+    fn notes(&self) -> Result<(Notes, Notes), DatabaseReason>
+        ensures { IfErr result (λ why. IsMissing why → ⊥) }
     {
-        let (fault, left) = refused;
-        self.keep(Opening::Refused(reason_of(left)));
-        fault
-    }
-
-    /// Why the last opening was refused: what the system says of the file, or else what that opening met. After one
-    /// that wasn't, the file is opened once more to find out why it can't be used now; if it may be written, by this
-    /// statement, which leaves the tables as they are.
-    pub(crate) fn reason(&self, same: &str) -> Option<DatabaseReason> {
-        match self.last.get() {
-            Opening::Refused(reason) => self.refused_by_system().or(reason),
-            Opening::Looked => self.reason_by(None),
-            Opening::Done => self.reason_by(Some(same)),
-        }
-    }
-
-    /// Why the file can't be opened, or why it doesn't execute a statement.
-    fn reason_by(&self, statement: Option<&str>) -> Option<DatabaseReason> {
-        match self.open_again() {
-            Ok(conn) => failure_at(conn, statement),
-            Err(reason) => reason,
-        }
-    }
-
-    /// Whether the system says that there is no such file.
-    pub(crate) fn is_missing(&self) -> bool {
-        match fs::metadata(self.rt, self.path) {
-            Ok(_metadata) => false,
-            Err(error) => matches!(error.kind(), ErrorKind::NotFound),
-        }
-    }
-
-    /// Opens the file once more, after a call failed and the file was closed; or says why that fails, if the
-    /// system or the library says it.
-    fn open_again(&self) -> Result<Connection<FileStore<H::Disk>>, Option<DatabaseReason>> {
-        if let Some(reason) = self.refused_by_system() {
-            return Err(Some(reason));
-        }
-        let files = match self.files() {
-            Ok(files) => files,
-            Err(reason) => return Err(Some(reason)),
-        };
-        match connected(self.rt, files) {
-            Ok(conn) => Ok(conn),
-            Err(refused) => Err(failure_of(fault_of(refused))),
+        match (self.place.notes.share(), self.place.notes.share()) {
+            (Ok(log), Ok(db)) => Ok((log, db)),
+            _ => Err(DatabaseReason::System(io::Error::from(AllocError))),
         }
     }
 
     /// The file and its log. The names that SQLite has for a database without a file, and for a URI, are refused.
-    fn files(&self) -> Result<Files<H::Disk>, DatabaseReason>
+    fn files(&self, missing: IfMissing) -> Result<Files<H::Disk>, DatabaseReason>
         ensures log { IfOk result (λ files. IsTrue (H.Disk.Disk.is_usable files.log)) }
         ensures db { IfOk result (λ files. IsTrue (H.Disk.Disk.is_usable files.db)) }
         ensures given { IfOk result H.DatabaseHost.gives }
+        ensures missing { IfErr result (λ why. IsMissing why
+            → IsMissingAt (H.DatabaseHost.says self.now.rt.now) self.now.place.now.path.now) }
     {
-        if self.path == ":memory:" || self.path.starts_with("file:") {
+        let path = self.place.path;
+        if path == ":memory:" || path.starts_with("file:") {
             return Err(DatabaseReason::Failed(ErrorCode::CannotOpen));
         }
-        make_private(self.rt, self.path);
-        match self.rt.open_database(self.path) {
-            Ok(files) => Ok(files),
-            Err(error) => Err(DatabaseReason::Unopened(error)),
+        let standing = self.standing()?;
+        match judged(self.place.opened(), missing, standing)? {
+            Step::Open => self.files_of(standing),
+            Step::Make => self.files_made(standing),
         }
     }
 
-    /// What the system says if the file is there and can't be written.
-    fn refused_by_system(&self) -> Option<DatabaseReason> {
+    /// Makes the file, and opens it.
+    fn files_made(&self, standing: Standing) -> Result<Files<H::Disk>, DatabaseReason>
+        requires said { H.DatabaseHost.says self.now.rt.now self.now.place.now.path.now standing }
+        requires vacant { IsVacant standing }
+        ensures log { IfOk result (λ files. IsTrue (H.Disk.Disk.is_usable files.log)) }
+        ensures db { IfOk result (λ files. IsTrue (H.Disk.Disk.is_usable files.db)) }
+        ensures given { IfOk result H.DatabaseHost.gives }
+        ensures missing { IfErr result (λ why. IsMissing why
+            → IsMissingAt (H.DatabaseHost.says self.now.rt.now) self.now.place.now.path.now) }
+    {
+        self.make(standing)?;
+        let made = self.standing()?;
+        match judged(None, IfMissing::Refuse, made)? {
+            Step::Open => self.files_of(made),
+            Step::Make => Err(DatabaseReason::Moved),
+        }
+    }
+
+    /// Makes an empty file. Its path was looked at before: there was none, and no log of one with changes.
+    fn make(&self, _standing: Standing) -> Result<(), DatabaseReason>
+        requires said { H.DatabaseHost.says self.now.rt.now self.now.place.now.path.now _standing }
+        requires vacant { IsVacant _standing }
+        ensures { IfErr result (λ why. IsMissing why → ⊥) }
+    {
+        match OpenOptions::new()
+            .write(true)
+            .create_new(true)
+            .mode(PRIVATE)
+            .open(self.rt, self.place.path)
+        {
+            Ok(_file) => Ok(()),
+            Err(error) => Err(DatabaseReason::System(error)),
+        }
+    }
+
+    /// Opens what is at the path. If the file isn't the one that was looked at, it is closed again.
+    fn files_of(&self, standing: Standing) -> Result<Files<H::Disk>, DatabaseReason>
+        requires said { H.DatabaseHost.says self.now.rt.now self.now.place.now.path.now standing }
+        requires there { MayBeOpened standing.found standing.log }
+        ensures log { IfOk result (λ files. IsTrue (H.Disk.Disk.is_usable files.log)) }
+        ensures db { IfOk result (λ files. IsTrue (H.Disk.Disk.is_usable files.db)) }
+        ensures given { IfOk result H.DatabaseHost.gives }
+        ensures fault { IfErr result (λ why. IsMissing why → ⊥) }
+    {
+        let (log, db) = self.notes()?;
+        match self.rt.open_database(self.place.path, standing, log, db) {
+            Ok(files) => {
+                self.keep_opened(standing)?;
+                Ok(files)
+            }
+            Err(error) => Err(self.refusal(error)),
+        }
+    }
+
+    /// Keeps which file was opened, if it is the one that was looked at.
+    fn keep_opened(&self, looked: Standing) -> Result<(), DatabaseReason>
+        ensures { IfErr result (λ why. IsMissing why → ⊥) }
+    {
+        match (looked.found, self.standing()?.found) {
+            (Found::File(looked, _), Found::File(file, _)) if same_file(looked, file) => {
+                self.place.keep_opened(file);
+                Ok(())
+            }
+            _ => Err(DatabaseReason::Moved),
+        }
+    }
+
+    /// Why files weren't opened: what the system says if the file can't be opened for writing, or else this.
+    fn refusal(&self, error: OpenError) -> DatabaseReason
+        ensures { IsMissing result → ⊥ }
+    {
         match OpenOptions::new()
             .read(true)
             .write(true)
-            .open(self.rt, self.path)
+            .open(self.rt, self.place.path)
         {
-            Ok(_file) => None,
-            Err(error) => match error.kind() {
-                ErrorKind::NotFound => None,
-                _ => Some(DatabaseReason::System(error)),
-            },
+            Err(error) if error.kind() != ErrorKind::NotFound => DatabaseReason::System(error),
+            _ => DatabaseReason::Unopened(error),
         }
     }
-}
 
-/// The mode of a new file: only its owner reads and writes it. Its log gets the same mode.
-const PRIVATE: u32 = 0o600;
+    /// What is at the path now.
+    fn standing(&self) -> Result<Standing, DatabaseReason>
+        ensures said { IfOk result (H.DatabaseHost.says self.now.rt.now self.now.place.now.path.now) }
+        ensures fault { IfErr result (λ why. IsMissing why → ⊥) }
+    {
+        match self.rt.look_at(self.place.path) {
+            Ok(standing) => Ok(standing),
+            Err(error) => Err(DatabaseReason::System(error)),
+        }
+    }
 
-/// Makes the file if there is none. If it can't be made, the opening after this says why.
-fn make_private(rt: &impl Runtime, path: &str) {
-    let _ = OpenOptions::new()
-        .write(true)
-        .create_new(true)
-        .mode(PRIVATE)
-        .open(rt, path);
+    /// Keeps why files were refused, if a call failed. What is left of them is dropped.
+    pub(crate) fn keep_cause<D: Disk + Drop>(&self, left: Remains<D>, has_failed: bool) {
+        match left {
+            Err((error, _left)) => {
+                if let Some(reason) = failure_of(error) {
+                    self.place.keep(reason);
+                }
+            }
+            Ok(_conn) => {}
+        }
+        if !has_failed {
+            self.place.forget();
+        }
+    }
+
+    /// Why the file can't be used: it isn't the one that was opened, or else what its last opening or call met. Nothing
+    /// is opened.
+    pub(crate) fn reason(&self) -> Option<DatabaseReason> {
+        if let Ok(standing) = self.standing()
+            && let Err(DatabaseReason::Moved) = judged(
+                self.place.opened(),
+                IfMissing::Refuse,
+                standing,
+            )
+        {
+            return Some(DatabaseReason::Moved);
+        }
+        self.place.met()
+    }
 }
 
 /// What is left of files that were refused: a connection to them, or why there is none, and what became of them.
 pub(crate) type Remains<D> = Result<Connection<FileStore<D>>, (Error, Leftover<D>)>;
-
-/// Why files were refused, by what is left of them. It makes no call on them.
-fn reason_of<D: Disk + Drop>(left: Remains<D>) -> Option<DatabaseReason> {
-    match left {
-        Ok(conn) => Some(failure_since(conn)),
-        Err((error, _left)) => failure_of(error),
-    }
-}
 
 /// The fault of a refusal. What it leaves is dropped.
 pub(crate) fn fault_of<F, L: Drop>(refused: (F, L)) -> F

@@ -1,5 +1,5 @@
 //! Where the entries of a connector are kept.
-ghost use Rattle.std.specs.Prelude.{◌≡◌, IfOk, MatchOption, OnOk, ⊤};
+ghost use Rattle.std.specs.Prelude.{◌≡◌, ◌⊎◌, IfOk, MatchOption, OnOk};
 ghost use Rattle.journal_core.specs.Calls.{Writes};
 ghost use Rattle.journal_core.specs.Entries.{EntryMap};
 ghost use Rattle.journal_core.specs.Forgetting.{forgotten, learnt_count};
@@ -41,17 +41,28 @@ pub trait EntryStorage {
     /// the files that the host gave.
     ghost finds: { Self → EntryMap → Type 0 };
 
-    /// Opens the entries.
+    /// It is known that there are none, and no place for any.
+    ghost is_missing: { Self → Type 0 };
+
+    /// A place is there, and has never kept any.
+    ghost has_no_tables: { Self → Type 0 };
+
+    /// Opens the entries. The first opening makes a place for them if there is none.
     fn open(&self) -> Result<Self::Entries, JournalOpenFault>
         ensures { IfOk result (IsOpenedAt Self.Entries.Journal (finds self.now)) };
+
+    /// Opens the entries, if they are there. It makes no place for any.
+    fn find(&self) -> Result<Option<Self::Entries>, JournalOpenFault>
+        ensures { IfOk result (λ found. MatchOption found (is_missing self.now)
+            (IsOpenedAt Self.Entries.Journal (finds self.now))) };
 
     /// Opens the entries as they are, if they are there. It makes and changes nothing: entries of an older format are
     /// refused.
     fn look(&self) -> Result<Option<Self::Entries>, LookFault>
-        ensures { IfOk result (λ seen. MatchOption seen ⊤
+        ensures { IfOk result (λ seen. MatchOption seen (is_missing self.now ⊎ has_no_tables self.now)
             (IsOpenedAt Self.Entries.Journal (finds self.now))) };
 
-    /// Why they can't be opened now, if the system or the database says it. They must be closed.
+    /// Why they can't be used, if the system or the database said it, or there is another file. It opens nothing.
     fn reason(&self) -> Option<DatabaseReason>;
 
     /// The name of the place in the arguments.

@@ -1,15 +1,18 @@
 //! A file that keeps the entries.
-ghost use Rattle.std.specs.Prelude.{◌≡◌, IfErr, IfOk, IsTrue};
+ghost use Rattle.std.specs.Prelude.{◌≡◌, IfErr, IfOk, IsTrue, MatchOption};
 ghost use Rattle.sqlite.specs.Files.{file_state};
 ghost use Rattle.sqlite.specs.Held.{state};
 ghost use Rattle.sqlite.specs.State.{IsLive};
-ghost use Rattle.storage.specs.JournalOpened.{FindsEntries, IsCarried, IsOpenedAgain, KeepsTables, LeavesEntries, Opens, OpensFiles};
+ghost use Rattle.storage.specs.JournalOpened.{FindsEntries, IsCarried, IsOpenedAgain, IsOpenedAt, KeepsTables, LeavesEntries, Opens, OpensFiles};
+ghost use Rattle.storage.specs.Looking.{FindsNoTables};
+ghost use Rattle.storage.specs.Places.{IsMissingAt};
 
 use crate::closing::Close;
-use crate::database::{DatabaseFile, Opening, Remains, closed, connected};
+use crate::database::{DatabaseFile, Remains, closed, connected};
 use crate::entry_storage::{EntryStorage, StoredEntries};
 use crate::host::DatabaseHost;
 use crate::looking::{LookFault, seen_in};
+use crate::places::IfMissing;
 use crate::reason::DatabaseReason;
 use journal_core::Journal;
 use journal_store::{JournalOpenFault, SqlJournal, is_older};
@@ -19,10 +22,7 @@ use sqlite_disk::{Disk, Files};
 use std::alloc::{AllocGlobal, Global};
 use std::random::RandomSource;
 
-/// A statement that leaves the tables as they are.
-const SAME: &str = "UPDATE journal_format SET number = number";
-
-/// A file that keeps the journal of a connector. Opening makes the file if there is none.
+/// A file that keeps the journal of a connector. The first `open` makes it if there is none.
 #[derive(Drop)]
 pub struct JournalFile<'a, H> {
     pub file: DatabaseFile<'a, H>,
@@ -32,40 +32,94 @@ impl<'a, H: DatabaseHost> EntryStorage for JournalFile<'a, H> {
     type Entries = SqlJournal<FileStore<H::Disk>>;
 
     /// Files that the host gives have these entries.
-    ghost finds = { λ _ entries. (files : _) × H.DatabaseHost.gives files × FindsEntries H.Disk.Disk files entries };
+    ghost finds = { λ _ entries. (files : _) × H.DatabaseHost.gives files
+        × FindsEntries H.Disk.Disk files entries };
+
+    ghost is_missing = { λ s. IsMissingAt (H.DatabaseHost.says s.file.rt.now) s.file.place.now.path.now };
+
+    ghost has_no_tables = { λ _. (files : _) × H.DatabaseHost.gives files
+        × FindsNoTables H.Disk.Disk files };
 
     /// If the file is refused, it is closed unchanged.
     fn open(&self) -> Result<Self::Entries, JournalOpenFault> {
-        match opened_in(self.file.rt, self.file.open()?) {
-            Ok(Opened::Entries(entries)) => {
-                self.file.keep(Opening::Done);
-                Ok(entries)
-            }
-            Ok(Opened::Carried(conn)) => opened_again(&self.file, conn),
-            Err(refused) => Err(self.file.refused(refused)),
+        self.entries_of(self.file.open(IfMissing::Make)?)
+    }
+
+    fn find(&self) -> Result<Option<Self::Entries>, JournalOpenFault> {
+        match self.file.open(IfMissing::Refuse) {
+            Ok(files) => Ok(Some(self.entries_of(files)?)),
+            Err(DatabaseReason::Missing(_)) => Ok(None),
+            Err(reason) => Err(JournalOpenFault::from(reason)),
         }
     }
 
-    /// If there is no file, none is made. If the file is refused, it is closed unchanged.
+    /// If the file is refused, it is closed unchanged.
     fn look(&self) -> Result<Option<Self::Entries>, LookFault> {
-        if self.file.is_missing() {
-            return Ok(None);
-        }
-        match seen_in(self.file.rt, self.file.open()?) {
-            Ok(seen) => {
-                self.file.keep(Opening::Looked);
-                Ok(seen)
-            }
-            Err(refused) => Err(self.file.refused(refused)),
+        match self.file.open(IfMissing::Refuse) {
+            Ok(files) => self.seen_of(files),
+            Err(DatabaseReason::Missing(_)) => Ok(None),
+            Err(reason) => Err(LookFault::from(JournalOpenFault::from(reason))),
         }
     }
 
     fn reason(&self) -> Option<DatabaseReason> {
-        self.file.reason(SAME)
+        self.file.reason()
     }
 
     fn name(&self) -> &str {
-        self.file.path
+        self.file.place.path
+    }
+}
+
+impl<'a, H: DatabaseHost> JournalFile<'a, H> {
+    /// The journal of the files at the place. If they are refused, they are closed, and why is kept.
+    fn entries_of(
+        &self,
+        files: Files<H::Disk>,
+    ) -> Result<SqlJournal<FileStore<H::Disk>>, JournalOpenFault>
+        requires log { IsTrue (H.Disk.Disk.is_usable files.log) }
+        requires db { IsTrue (H.Disk.Disk.is_usable files.db) }
+        requires given { H.DatabaseHost.gives files }
+        ensures { IfOk result (IsOpenedAt ⟦<SqlJournal<FileStore<H::Disk>> as Journal>⟧
+            (λ entries. (files : _) × H.DatabaseHost.gives files
+            × FindsEntries H.Disk.Disk files entries)) }
+    {
+        match opened_in(self.file.rt, files) {
+            Ok(Opened::Entries(entries)) => {
+                self.file.place.forget();
+                Ok(entries)
+            }
+            Ok(Opened::Carried(conn)) => opened_again(&self.file, conn),
+            Err((fault, left)) => Err(refused(&self.file, fault, left)),
+        }
+    }
+
+    /// The journal of the files at the place, if they have tables.
+    fn seen_of(
+        &self,
+        files: Files<H::Disk>,
+    ) -> Result<Option<SqlJournal<FileStore<H::Disk>>>, LookFault>
+        requires log { IsTrue (H.Disk.Disk.is_usable files.log) }
+        requires db { IsTrue (H.Disk.Disk.is_usable files.db) }
+        requires given { H.DatabaseHost.gives files }
+        ensures { IfOk result (λ seen. MatchOption seen
+            ((files : _) × H.DatabaseHost.gives files
+            × FindsNoTables H.Disk.Disk files)
+            (IsOpenedAt ⟦<SqlJournal<FileStore<H::Disk>> as Journal>⟧
+            (λ entries. (files : _) × H.DatabaseHost.gives files
+            × FindsEntries H.Disk.Disk files entries))) }
+    {
+        match seen_in(self.file.rt, files) {
+            Ok(seen) => {
+                self.file.place.forget();
+                Ok(seen)
+            }
+            Err((fault, left)) => {
+                let has_failed = matches!(fault, LookFault::Refused(JournalOpenFault::Store));
+                self.file.keep_cause(left, has_failed);
+                Err(fault)
+            }
+        }
     }
 }
 
@@ -142,8 +196,7 @@ fn connection_of<S: Alter>(entries: SqlJournal<S>) -> Connection<S>
 }
 
 /// Closes a connection that carried an older format over, and opens the journal of its files, which stay locked
-/// meanwhile. If this fails, the files are closed, and nothing is written to find out why. A journal that is of an
-/// older format again wasn't kept by its disk.
+/// meanwhile. If this fails, the files are closed. A journal that is of an older format again wasn't kept by its disk.
 fn opened_again<H: DatabaseHost, D: Disk + Drop>(
     file: &DatabaseFile<'_, H>,
     conn: Connection<FileStore<D>>,
@@ -151,10 +204,25 @@ fn opened_again<H: DatabaseHost, D: Disk + Drop>(
     requires { IsCarried (file_state conn) }
     ensures { IfOk result (IsOpenedAgain ⟦<SqlJournal<FileStore<D>> as Journal>⟧ conn) }
 {
-    file.keep(Opening::Looked);
     match opened_in(file.rt, closed(conn)?) {
-        Ok(Opened::Entries(entries)) => Ok(entries),
-        Ok(Opened::Carried(conn)) => Err(file.refused((JournalOpenFault::Store, Ok(conn)))),
-        Err(refused) => Err(file.refused(refused)),
+        Ok(Opened::Entries(entries)) => {
+            file.place.forget();
+            Ok(entries)
+        }
+        Ok(Opened::Carried(conn)) => Err(refused(file, JournalOpenFault::Store, Ok(conn))),
+        Err((fault, left)) => Err(refused(file, fault, left)),
     }
+}
+
+/// The fault of files that were refused. If a call failed, why is kept.
+fn refused<H: DatabaseHost, D: Disk + Drop>(
+    file: &DatabaseFile<'_, H>,
+    fault: JournalOpenFault,
+    left: Remains<D>,
+) -> JournalOpenFault
+    ensures { result ≡ fault }
+{
+    let has_failed = matches!(fault, JournalOpenFault::Store);
+    file.keep_cause(left, has_failed);
+    fault
 }

@@ -1,8 +1,8 @@
 //! The entries of a journal as lines.
-ghost use Rattle.std.specs.Prelude.{OnOk};
+ghost use Rattle.std.specs.Prelude.{◌≡◌, OnOk};
 ghost use Rattle.std.specs.Io.KnownBytes.{Appends};
 ghost use Rattle.storage.specs.JournalLines.{lines_of};
-ghost use Rattle.storage.specs.JournalShowing.{ShowsFrom, WritesEntries};
+ghost use Rattle.storage.specs.JournalShowing.{ReadsAndCloses, ShowsFrom, WritesEntries};
 
 use crate::entry_storage::{EntryStorage, StoredEntries};
 use crate::journal_lines::entry_line;
@@ -24,10 +24,23 @@ pub fn show_entries<K: EntryStorage, W: Write>(
         (ShowsFrom K.Entries.Journal (K.finds storage.now) (W.contents out.old)
         (W.contents out.new)) }
 {
-    let mut entries = storage.open()?;
+    let Some(entries) = storage.find()? else {
+        return Err(ShowFault::NoJournal);
+    };
+    show_opened(stderr, alloc, entries, out).0
+}
+
+/// Writes a line for each entry, and closes the entries, which were only read.
+fn show_opened<E: StoredEntries, W: Write>(
+    stderr: &impl Eprint,
+    alloc: Global,
+    mut entries: E,
+    out: &mut W,
+) -> (Result<(), ShowFault>, E::Left)
+    ensures { ReadsAndCloses E.Journal E.is_closed (W.contents out.old) (W.contents out.new) entries result }
+{
     let shown = write_entries(stderr, alloc, &mut entries, out);
-    entries.close();
-    shown
+    (shown, entries.close())
 }
 
 /// Writes a line for each entry (users by key, then groups by key), and flushes. After a fault, any part of
@@ -38,7 +51,8 @@ pub fn write_entries<J: Journal, W: Write>(
     journal: &mut J,
     out: &mut W,
 ) -> Result<(), ShowFault>
-    ensures { J.is_faithful journal.new
+    ensures unwritten { J.writes journal.new ≡ J.writes journal.old }
+    ensures lines { J.is_faithful journal.new
         → OnOk result
         (WritesEntries (J.entries journal.old) (W.contents out.old) (W.contents out.new)) }
 {

@@ -21,8 +21,15 @@ impl RowStorage for InMemory {
 
     ghost finds = { λ _ rows. rows ≡ [] };
 
+    /// There is always room.
+    ghost is_missing = { λ _. ⊥ };
+
     fn open(&self) -> Result<MemoryRegistry, RegistryOpenFault> {
         Ok(MemoryRegistry::new(self.alloc))
+    }
+
+    fn find(&self) -> Result<Option<MemoryRegistry>, RegistryOpenFault> {
+        Ok(Some(MemoryRegistry::new(self.alloc)))
     }
 
     fn reason(&self) -> Option<DatabaseReason> {

@@ -29,7 +29,9 @@ pub fn reset_entries<K: EntryStorage, W: Write>(
 fn reset_stored<K: EntryStorage>(storage: &K) -> Result<usize, ShowFault>
     ensures { IfOk result (ResetsFrom K.Entries.Journal (K.finds storage.now)) }
 {
-    let mut entries = storage.open()?;
+    let Some(mut entries) = storage.find()? else {
+        return Err(ShowFault::NoJournal);
+    };
     let reset = entries.reset();
     entries.close();
     reset.map_err(journal_fault)

@@ -1,5 +1,5 @@
 //! Where the rows of a provider are kept.
-ghost use Rattle.std.specs.Prelude.{◌<◌, ◌↔◌, IfErr, IfOk, IsTrue, List};
+ghost use Rattle.std.specs.Prelude.{◌<◌, ◌↔◌, IfErr, IfOk, IsTrue, List, MatchOption};
 ghost use Rattle.scim_resource.specs.Rows.{StoredRecord};
 ghost use Rattle.provider_store.specs.declared.opening.RegistryOpenFault.{RegistryOpenFault as Refusal};
 ghost use Rattle.storage.specs.StoreOpened.{IsOpenedAt};
@@ -35,12 +35,21 @@ pub trait RowStorage {
     /// files that the host gave.
     ghost finds: { Self → List StoredRecord → Type 0 };
 
-    /// Opens the rows.
+    /// It is known that there are none, and no place for any.
+    ghost is_missing: { Self → Type 0 };
+
+    /// Opens the rows. The first opening makes a place for them if there is none.
     fn open(&self) -> Result<Self::Rows, RegistryOpenFault>
         ensures opened { IfOk result (IsOpenedAt Self.Rows.Registry (finds self.now)) }
         ensures refused { IfErr result (refuses self.now) };
 
-    /// Why they can't be opened now, if the system or the database says it. They must be closed.
+    /// Opens the rows, if they are there. It makes no place for any.
+    fn find(&self) -> Result<Option<Self::Rows>, RegistryOpenFault>
+        ensures found { IfOk result (λ found. MatchOption found (is_missing self.now)
+            (IsOpenedAt Self.Rows.Registry (finds self.now))) }
+        ensures refused { IfErr result (refuses self.now) };
+
+    /// Why they can't be used, if the system or the database said it, or there is another file. It opens nothing.
     fn reason(&self) -> Option<DatabaseReason>;
 
     /// The name of the place in the arguments.

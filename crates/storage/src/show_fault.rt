@@ -1,6 +1,6 @@
 //! Why what is kept wasn't shown whole.
 ghost use Rattle.std.specs.Prelude.{◌≡◌, ◌≢◌};
-ghost use Rattle.storage.specs.ShowFaults.{journal_fault, registry_fault};
+ghost use Rattle.storage.specs.ShowFaults.{IsOfStore, journal_fault, registry_fault};
 ghost use Rattle.storage.specs.declared.show_fault.ShowFault.TheVariants.{Memory, Output};
 
 use journal_store::JournalOpenFault;
@@ -20,6 +20,12 @@ pub enum ShowFault {
     /// The journal couldn't be opened, or it failed.
     #[error("journal {0}")]
     Journal(JournalOpenFault),
+    /// There is no store, and none is made.
+    #[error("no store")]
+    NoStore,
+    /// There is no journal, and none is made.
+    #[error("no journal")]
+    NoJournal,
     #[error("memory")]
     Memory,
     /// A write or the flush failed.
@@ -56,6 +62,8 @@ impl From<AllocError> for ShowFault {
 }
 
 impl From<io::Error> for ShowFault {
+    ghost from_gives = { λ _ fault. IsOfStore fault };
+
     fn from(error: io::Error) -> ShowFault {
         output_fault(error.kind())
     }
@@ -63,7 +71,8 @@ impl From<io::Error> for ShowFault {
 
 /// The fault for a failed call of the store.
 pub(crate) fn registry_fault(fault: StoreFault) -> ShowFault
-    ensures { result ≡ registry_fault fault }
+    ensures is { result ≡ registry_fault fault }
+    ensures there { IsOfStore result }
 {
     match fault {
         StoreFault::Store => ShowFault::Store(RegistryOpenFault::Store),
@@ -85,6 +94,7 @@ pub(crate) fn journal_fault(fault: StoreFault) -> ShowFault
 fn output_fault(kind: ErrorKind) -> ShowFault
     ensures memory { kind ≡ ErrorKind.OutOfMemory → result ≡ Memory }
     ensures output { kind ≢ ErrorKind.OutOfMemory → result ≡ Output }
+    ensures there { IsOfStore result }
 {
     match kind {
         ErrorKind::OutOfMemory => ShowFault::Memory,

@@ -1,10 +1,12 @@
 //! A file that keeps the rows.
 ghost use Rattle.std.specs.Prelude.{IfErr, IfOk, IsTrue};
+ghost use Rattle.storage.specs.Places.{IsMissingAt};
 ghost use Rattle.storage.specs.StoreOpened.{FindsRows, IsOpenedAt, LeavesRows};
 
 use crate::closing::Close;
-use crate::database::{DatabaseFile, Opening, Remains, connected};
+use crate::database::{DatabaseFile, Remains, connected};
 use crate::host::DatabaseHost;
+use crate::places::IfMissing;
 use crate::reason::DatabaseReason;
 use crate::row_storage::{RowStorage, StoredRows};
 use provider_core::Registry;
@@ -14,10 +16,7 @@ use sqlite_disk::{Disk, Files};
 use std::alloc::AllocGlobal;
 use std::random::RandomSource;
 
-/// A statement that leaves the tables as they are.
-const SAME: &str = "UPDATE provider_format SET number = number";
-
-/// A file that keeps the rows of a provider. Opening makes the file if there is none.
+/// A file that keeps the rows of a provider. The first `open` makes it if there is none.
 #[derive(Drop)]
 pub struct StoreFile<'a, H> {
     pub file: DatabaseFile<'a, H>,
@@ -30,25 +29,57 @@ impl<'a, H: DatabaseHost> RowStorage for StoreFile<'a, H> {
     ghost refuses = { λ _ _. Unit {0} };
 
     /// Files that the host gives have these rows.
-    ghost finds = { λ _ rows. (files : _) × H.DatabaseHost.gives files × FindsRows H.Disk.Disk files rows };
+    ghost finds = { λ _ rows. (files : _) × H.DatabaseHost.gives files
+        × FindsRows H.Disk.Disk files rows };
+
+    ghost is_missing = { λ s. IsMissingAt (H.DatabaseHost.says s.file.rt.now) s.file.place.now.path.now };
 
     /// If the file is refused, it is closed unchanged.
     fn open(&self) -> Result<Self::Rows, RegistryOpenFault> {
-        match rows_in(self.file.rt, self.file.open()?) {
-            Ok(rows) => {
-                self.file.keep(Opening::Done);
-                Ok(rows)
-            }
-            Err(refused) => Err(self.file.refused(refused)),
+        self.rows_of(self.file.open(IfMissing::Make)?)
+    }
+
+    fn find(&self) -> Result<Option<Self::Rows>, RegistryOpenFault> {
+        match self.file.open(IfMissing::Refuse) {
+            Ok(files) => Ok(Some(self.rows_of(files)?)),
+            Err(DatabaseReason::Missing(_)) => Ok(None),
+            Err(reason) => Err(RegistryOpenFault::from(reason)),
         }
     }
 
     fn reason(&self) -> Option<DatabaseReason> {
-        self.file.reason(SAME)
+        self.file.reason()
     }
 
     fn name(&self) -> &str {
-        self.file.path
+        self.file.place.path
+    }
+}
+
+impl<'a, H: DatabaseHost> StoreFile<'a, H> {
+    /// The registry of the files at the place. If they are refused, they are closed, and why is kept.
+    fn rows_of(
+        &self,
+        files: Files<H::Disk>,
+    ) -> Result<SqlRegistry<FileStore<H::Disk>>, RegistryOpenFault>
+        requires log { IsTrue (H.Disk.Disk.is_usable files.log) }
+        requires db { IsTrue (H.Disk.Disk.is_usable files.db) }
+        requires given { H.DatabaseHost.gives files }
+        ensures { IfOk result (IsOpenedAt ⟦<SqlRegistry<FileStore<H::Disk>> as Registry>⟧
+            (λ rows. (files : _) × H.DatabaseHost.gives files
+            × FindsRows H.Disk.Disk files rows)) }
+    {
+        match rows_in(self.file.rt, files) {
+            Ok(rows) => {
+                self.file.place.forget();
+                Ok(rows)
+            }
+            Err((fault, left)) => {
+                let has_failed = matches!(fault, RegistryOpenFault::Store);
+                self.file.keep_cause(left, has_failed);
+                Err(fault)
+            }
+        }
     }
 }
 

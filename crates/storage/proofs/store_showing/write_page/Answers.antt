@@ -12,4 +12,4 @@ returns-clause-page g c = λ faithful.
     let rows = g.R.Registry.rows c.args.rows.now in
     let page : c.as_slice.result.now ≡ take ROWS_AT_ONCE (drop c.args.after rows) =
     c.as_slice.ensures.value ∙ c.in_ok-page.ensures.ok faithful ∙ sym (page-dropped c.args.after ROWS_AT_ONCE rows (c.in_ok-page.ensures.numbered faithful)) in
-    subst (λ (part : List StoredRecord). OnOk c.write_lines.result (Appends (g.W.Write.contents c.args.out.now) (g.W.Write.contents c.write_lines.new.out) (lines_of part))) page c.write_lines.ensures
+    subst (λ (part : List StoredRecord). OnOk c.write_lines.result (Appends (g.W.Write.contents c.args.out.now) (g.W.Write.contents c.write_lines.new.out) (lines_of part))) page c.write_lines.ensures.lines

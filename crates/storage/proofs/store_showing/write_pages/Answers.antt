@@ -13,8 +13,8 @@ loop-after-preserved g c =
     c.count_of.new.rows c.loop-after.rows c.write_page.new.rows (omega arith) c.saturating_add-after.ensures
     c.loop-after.invariant c.in_ok-write_page.ensures.reads c.in_ok-write_page.ensures.page
 
-pub returns : goal.returns
-returns g c =
+pub returns-clause-lines : goal.returns-clause-lines
+returns-clause-lines g c =
     all_shown g.R.Registry c.in_ok-all.all c.loop-after.after (g.W.Write.contents c.args.out.now) (g.W.Write.contents c.loop-after.out)
     c.args.rows.now c.count_of.new.rows c.loop-after.rows (omega arith)
     c.in_ok-all.ensures.ok c.in_ok-all.ensures.reads.same c.loop-after.invariant
