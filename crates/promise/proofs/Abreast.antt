@@ -49,7 +49,7 @@ module _ {I O : Type 0} where
   comes_apart name track others all waiting with same away apart = apart_all (name_of track) (names_of others waiting) (names_of all waiting) (held track others all waiting with)
       (subst (λ (m : RecordName). AllByRecursion (λ n. n ≢ m) (names_of others waiting)) (sym same) away) apart
 
-module _ {J I O : Type 0} (P Q : Type 0) (h : Journals J) (received : I → Option (List ℕ)) (posted : O → Option (List ℕ)) (base : List ℕ) (last : BookMap) where
+module _ {J I O : Type 0} (P Q : Type 0) (h : Journals J) (received : I → Option (List ℕ)) (posted : O → Option (List ℕ)) (base : List ℕ) (window : ℕ) (last : BookMap) where
   abbrev Known : Type 0
   Known = Begun P Q h received posted base last
 
@@ -85,7 +85,7 @@ module _ {J I O : Type 0} (P Q : Type 0) (h : Journals J) (received : I → Opti
 
   -- ---- one move
 
-  begun_more : (first opened : List (Opening I O)) (told : List Done) (old new : Scene I O J) → IsBegun received posted h base first told old new → From opened new → From (first ++ opened) old
+  begun_more : (first opened : List (Opening I O)) (told : List Done) (old new : Scene I O J) → IsBegun received posted h base window first told old new → From opened new → From (first ++ opened) old
   begun_more first opened told old new b from bs are apart =
       let so : AreApart (map name_of old.tracks ++ b.name ∷ new.waiting) = subst (λ (l : List RecordName). AreApart (map name_of old.tracks ++ l)) b.waiting apart in
       let away = apart_one b.name (names_of old.tracks new.waiting) (map name_of old.tracks ++ b.name ∷ new.waiting) (holds_between b.name (map name_of old.tracks) new.waiting) so in
@@ -96,7 +96,7 @@ module _ {J I O : Type 0} (P Q : Type 0) (h : Journals J) (received : I → Opti
       begun P Q h received posted base last (fresh b.name) first opened b.track old.state.book b.begins bs (all_away b.name bs old.tracks new.waiting are away.0)
       (makes_out P Q h received posted base last (b.track, set) bs into.0 opened old.state.book into.2 (on_book opened into.0 old.state new.state b.state ends))
 
-  continued_more : (first opened : List (Opening I O)) (told : List Done) (old new : Scene I O J) → IsContinued received posted h base first told old new → From opened new → From (first ++ opened) old
+  continued_more : (first opened : List (Opening I O)) (told : List Done) (old new : Scene I O J) → IsContinued received posted h base window first told old new → From opened new → From (first ++ opened) old
   continued_more first opened told old new c from bs are apart =
       let out = take_out Sets bs c.others (UnderWay c.account c.flight) (subst (λ (l : List (Track I O)). Holds (UnderWay c.account c.flight) c.others l) (sym are) (holds_of (UnderWay c.account c.flight) c.others old.tracks c.before)) in
       let away = leaves_apart (UnderWay c.account c.flight) c.others old.tracks old.waiting c.before apart in
@@ -110,7 +110,7 @@ module _ {J I O : Type 0} (P Q : Type 0) (h : Journals J) (received : I → Opti
       (begun P Q h received posted base last (faulted c.fault c.account) first opened c.track new.state.book c.begins out.1 (all_away c.account.name out.1 c.others old.waiting out.2 away.0)
       (makes_out P Q h received posted base last (c.track, set) out.1 into.0 opened new.state.book into.2 ends)))
 
-  reported_more : (first opened : List (Opening I O)) (told : List Done) (old new : Scene I O J) → IsReported received posted h base first told old new → From opened new → From (first ++ opened) old
+  reported_more : (first opened : List (Opening I O)) (told : List Done) (old new : Scene I O J) → IsReported received posted h base window first told old new → From opened new → From (first ++ opened) old
   reported_more first opened told old new r from bs are apart =
       let done = IsDone r.account r.standing in
       let out = take_out Sets bs new.tracks done (subst (λ (l : List (Track I O)). Holds done new.tracks l) (sym are) (holds_of done new.tracks old.tracks r.tracks)) in
@@ -120,7 +120,7 @@ module _ {J I O : Type 0} (P Q : Type 0) (h : Journals J) (received : I → Opti
       (makes_done P Q h received posted base last r.account r.standing out.0 out.1 (first ++ opened) old.state.book
       (makes_skip P Q h received posted base last first opened out.1 old.state.book (on_book opened out.1 old.state new.state r.state ends)))
 
-  moved_more : (first opened : List (Opening I O)) (told : List Done) (old new : Scene I O J) → IsMoved received posted h base first told old new → From opened new → From (first ++ opened) old
+  moved_more : (first opened : List (Opening I O)) (told : List Done) (old new : Scene I O J) → IsMoved received posted h base window first told old new → From opened new → From (first ++ opened) old
   moved_more first opened told old new m from bs are apart =
       let out = take_out Sets bs m.others m.track (subst (λ (l : List (Track I O)). Holds m.track m.others l) (sym are) (holds_of m.track m.others old.tracks m.before)) in
       let into = put_in Sets out.1 m.others new.tracks m.track out.0 out.2 (holds_of m.track m.others new.tracks m.after) in
@@ -131,7 +131,7 @@ module _ {J I O : Type 0} (P Q : Type 0) (h : Journals J) (received : I → Opti
       (makes_in P Q h received posted base last (m.track, out.0) out.1 bs opened old.state.book out.3
       (makes_out P Q h received posted base last (m.track, out.0) out.1 into.0 opened old.state.book into.2 (on_book opened into.0 old.state new.state m.state ends)))
 
-  move_more : (first opened : List (Opening I O)) (told : List Done) (old new : Scene I O J) → IsMove received posted h base first told old new → From opened new → From (first ++ opened) old
+  move_more : (first opened : List (Opening I O)) (told : List Done) (old new : Scene I O J) → IsMove received posted h base window first told old new → From opened new → From (first ++ opened) old
   move_more first opened told old new (inl b) from = begun_more first opened told old new b from
   move_more first opened told old new (inr (inl c)) from = continued_more first opened told old new c from
   move_more first opened told old new (inr (inr (inl r))) from = reported_more first opened told old new r from
@@ -139,7 +139,7 @@ module _ {J I O : Type 0} (P Q : Type 0) (h : Journals J) (received : I → Opti
 
   -- ---- moves
 
-  moves_more : (points : List (Point I O J)) (first opened : List (Opening I O)) (told : List Done) (old new : Scene I O J) → AreMoves received posted h base points first told old new → From opened new → From (first ++ opened) old
+  moves_more : (points : List (Point I O J)) (first opened : List (Opening I O)) (told : List Done) (old new : Scene I O J) → AreMoves received posted h base window points first told old new → From opened new → From (first ++ opened) old
   moves_more [] first opened told old new (none, silent, same) from bs are apart =
       subst (λ (s : Scene I O J). From (first ++ opened) s) same (λ cs these away. on_streams (first ++ opened) opened cs new.state.book (ap (λ (l : List (Opening I O)). l ++ opened) none) (from cs these away)) bs are apart
   moves_more (p ∷ points) first opened told old new m from bs are apart =
@@ -174,7 +174,7 @@ module _ {J I O : Type 0} (P Q : Type 0) (h : Journals J) (received : I → Opti
   advanced (UnderWay a f) set bs opened old new fault (inr e) ends = heard P Q h received posted base last a f set bs opened old new (Err e.0) e.1 ends
   advanced (IsDone a standing) set bs opened old new fault (none, same, is) ends = absurd (cc is)
 
-  caused : (opened : List (Opening I O)) (scene : Scene I O J) (rest : List (Track I O)) (new : Connector J) (fault : RunFault) → Causes received posted h base opened scene rest new fault
+  caused : (opened : List (Opening I O)) (scene : Scene I O J) (rest : List (Track I O)) (new : Connector J) (fault : RunFault) → Causes received posted h base window opened scene rest new fault
       → ((bs : List Known) → tracks_of bs ≡ rest → Ends [] bs new.book) → (bs : List Known) → tracks_of bs ≡ scene.tracks → Ends opened bs scene.state.book
   caused opened scene rest new fault (inl c) from bs are =
       unopened opened bs scene.state.book (on_book [] bs scene.state new c.1 (from bs (are ∙ sym c.0)))
@@ -191,19 +191,19 @@ module _ {J I O : Type 0} (P Q : Type 0) (h : Journals J) (received : I → Opti
   -- ---- records
 
   all_moved : (names : List RecordName) (first opened : List (Opening I O)) (old new : Connector J) (before after : Option (List Done)) (tally : Tally) → AreApart names
-      → AllMoved received posted h base names first old new before after tally → Ends opened [] new.book → Ends (first ++ opened) [] old.book
+      → AllMoved received posted h base window names first old new before after tally → Ends opened [] new.book → Ends (first ++ opened) [] old.book
   all_moved names first opened old new before after tally apart all ends =
       moves_more all.moves.0 first opened all.done (at_start names old) (at_start [] new) all.moves.1 (λ bs are away. subst (λ (l : List Known). Ends opened l new.book) (sym (no_more bs are)) ends) [] refl apart
 
   part_moved : (names : List RecordName) (opened : List (Opening I O)) (old new : Connector J) (fault : RunFault) → AreApart names
-      → PartMoved received posted h base names opened old new fault → Ends [] [] new.book → Ends opened [] old.book
+      → PartMoved received posted h base window names opened old new fault → Ends [] [] new.book → Ends opened [] old.book
   part_moved names opened old new fault apart part ends =
       let s = part.stops in
       on_streams opened (s.first ++ s.last) [] old.book s.opened_are
       (moves_more s.moves.0 s.first s.last part.done (at_start names old) s.between s.moves.1
       (λ bs are away. caused s.last s.between part.rest part.between fault s.causes (λ cs these. looked part.rest [] part.between new part.looked ends cs these) bs are) [] refl apart)
 
-module _ {J I O : Type 0} (P Q : Type 0) (h : Journals J) (received : I → Option (List ℕ)) (posted : O → Option (List ℕ)) (base : List ℕ) where
+module _ {J I O : Type 0} (P Q : Type 0) (h : Journals J) (received : I → Option (List ℕ)) (posted : O → Option (List ℕ)) (base : List ℕ) (window : ℕ) where
   abbrev Does : List (Opening I O) → (book last : BookMap) → Type 0
   Does opened book last = IsPushAbreast P Q h received posted base opened book last
 
@@ -211,20 +211,20 @@ module _ {J I O : Type 0} (P Q : Type 0) (h : Journals J) (received : I → Opti
   whole opened book last m = record { moves = m.moves; does = subst (λ waits. AbreastDoes h received posted base m.moves waits book last) m.fits m.does; streams = m.streams }
 
   abreast_moved : (names : List RecordName) (opened : List (Opening I O)) (old new : Connector J) (before after : Option (List Done)) (result : Result Tally RunFault) → AreApart names
-      → PushesAbreast received posted h base names opened old new before after result → Makes P Q h received posted base new.book opened [] old.book
+      → PushesAbreast received posted h base window names opened old new before after result → Makes P Q h received posted base new.book opened [] old.book
   abreast_moved names opened old new before after (Ok tally) apart all =
-      on_streams P Q h received posted base new.book opened (opened ++ []) [] old.book (sym (append-nil opened))
-      (all_moved P Q h received posted base new.book names opened [] old new before after tally apart all (makes_end P Q h received posted base new.book))
+      on_streams P Q h received posted base window new.book opened (opened ++ []) [] old.book (sym (append-nil opened))
+      (all_moved P Q h received posted base window new.book names opened [] old new before after tally apart all (makes_end P Q h received posted base new.book))
   abreast_moved names opened old new before after (Err fault) apart part =
-      part_moved P Q h received posted base new.book names opened old new fault apart part (makes_end P Q h received posted base new.book)
+      part_moved P Q h received posted base window new.book names opened old new fault apart part (makes_end P Q h received posted base new.book)
 
   both_moved : (users groups : List RecordName) (opened : List (Opening I O)) (old new : Connector J) (before after : Option (List Done)) (result : Result Tally RunFault) → AreApart users → AreApart groups
-      → PushesBoth received posted h base users groups opened old new before after result → Does opened old.book new.book
+      → PushesBoth received posted h base window users groups opened old new before after result → Does opened old.book new.book
   both_moved users groups opened old new before after result apart away (inl b) = whole opened old.book new.book
-      (on_streams P Q h received posted base new.book opened (b.0 ++ b.1) [] old.book b.6
-      (all_moved P Q h received posted base new.book users b.0 b.1 old b.2 before b.3 b.4 apart b.7 (abreast_moved groups b.1 b.2 new b.3 after b.5 away b.8)))
+      (on_streams P Q h received posted base window new.book opened (b.0 ++ b.1) [] old.book b.6
+      (all_moved P Q h received posted base window new.book users b.0 b.1 old b.2 before b.3 b.4 apart b.7 (abreast_moved groups b.1 b.2 new b.3 after b.5 away b.8)))
   both_moved users groups opened old new before after result apart away (inr f) = whole opened old.book new.book
-      (part_moved P Q h received posted base new.book users opened old new f.0 apart f.1 (makes_end P Q h received posted base new.book))
+      (part_moved P Q h received posted base window new.book users opened old new f.0 apart f.1 (makes_end P Q h received posted base new.book))
 
   -- ---- in order
 
@@ -234,7 +234,7 @@ module _ {J I O : Type 0} (P Q : Type 0) (h : Journals J) (received : I → Opti
       keys_apart book names (subst (λ (l : List RecordName). IsPermutation (keys book) l) (sym order.2) (parted (is_switched_off (book_of book)) (keys book) order.0 order.1.same))
 
   pub abreast_made : (leavers_first : Bool) (opened : List (Opening I O)) (old new : Connector J) (before after : Option (List Done)) (result : Result Tally RunFault)
-      → PushesAllAbreast received posted h base leavers_first opened old new before after result → Does opened old.book new.book
+      → PushesAllAbreast received posted h base window leavers_first opened old new before after result → Does opened old.book new.book
   abreast_made leavers_first opened old new before after result (inl p) =
       let split = take-append-drop (prefix_len is_user p.0) p.0 in
       let apart : AreApart (users_of p.0 ++ groups_of p.0) = subst AreApart (sym split) (order_apart leavers_first old.book p.0 p.1) in

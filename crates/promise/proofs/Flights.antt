@@ -2,16 +2,7 @@
 use Rattle.std.proofs.Common.{◌≡◌, ◌≢◌, ◌⊎◌, ℕ, List, [], ◌∷◌, ◌++◌, map, Option, Some, Result, Ok, Err, refl, ap, sym, subst, ◌∙◌, inl, inr}
 use Rattle.std.specs.List.{AllByRecursion}
 use Rattle.scim_key.specs.declared.records.RecordName.{RecordName}
-use Rattle.scim_message.specs.declared.messages.Answer.{Answer}
-use Rattle.scim_message.specs.declared.messages.Request.{Request}
-use Rattle.http_text.specs.Counts.{Writing, fresh_reading, fresh_writing}
-use Rattle.scim_client.specs.Exchanges.{IsReply, Starts, SpellsSent}
 use Rattle.scim_client.specs.Requests.{text_of}
-use Rattle.scim_client.specs.declared.answers.AnswerFault.TheVariants.{NotOneResponse, NotJson, WrongShape}
-use Rattle.scim_client.specs.declared.answers.AnswerFault.TheVariants as answers
-use Rattle.scim_client.specs.declared.exchange.ExchangeFault.{ExchangeFault}
-use Rattle.scim_client.specs.declared.exchange.ExchangeFault.TheVariants.{Unsent, EndedEarly, ReadFailed, OutOfMemory, TurnsExhausted, NoAnswer}
-use Rattle.scim_client.proofs.ExchangeLemmas.{hindered_known, reads_none, sends_fault, sends_reply}
 use Rattle.journal_core.specs.declared.journals.Journal.{Ghosts as Journals}
 use Rattle.connector_core.specs.Asking.{asking}
 use Rattle.connector_core.specs.Maps.{BookMap, book_of}
@@ -34,46 +25,8 @@ use Rattle.promise.specs.Abreast.{AbreastDoes, exchange_of}
 use Rattle.promise.specs.Moves.{AreAmong, Asking, Move, Move.asks, Move.hears, streams_in}
 use Rattle.promise.proofs.Bags.{Holds, all_of, either_first, holds_first, with_of}
 use Rattle.promise.proofs.Calls.{unsent}
+use Rattle.provisioning.proofs.AskedLemmas.{asked_of}
 use Rattle.promise.proofs.Pushes.{among_skip}
-
--- ---- the two halves of an exchange are one
-
-module _ {I O : Type 0} (received : I → Option (List ℕ)) (posted : O → Option (List ℕ)) (base : List ℕ) (request : Request) (reader : I) (writer : O) where
-  asked_whole : (written : Writing) (came : Result Answer ExchangeFault) → Starts (text_of base request) (fresh_writing (posted writer)) written (Ok tt) → SpellsSent base request (fresh_writing (posted writer)) written
-      → IsReadFrom received request reader came → IsAsked received posted base request reader writer came
-  asked_whole written came starts spelled read = record {
-    left = read.left;
-    written = written;
-    sent = sends_reply (text_of base request) (fresh_writing (posted writer)) written came read.reply starts;
-    spelled = spelled;
-    read = read.read;
-    known = read.known;
-  }
-
-  asked_part : (written : Writing) (fault : ExchangeFault) → Starts (text_of base request) (fresh_writing (posted writer)) written (Err fault) → SpellsSent base request (fresh_writing (posted writer)) written
-      → IsAsked received posted base request reader writer (Err fault)
-  asked_part written fault starts spelled =
-      let sends = sends_fault (text_of base request) (fresh_writing (posted writer)) written fault starts in
-      record {
-        left = fresh_reading (received reader);
-        written = written;
-        sent = sends.0;
-        spelled = spelled;
-        read = reads_none request (fresh_reading (received reader)) (text_of base request) (fresh_writing (posted writer)) written fault starts;
-        known = hindered_known request (received reader) (received reader) (Err fault) sends.1;
-      }
-
-  pub asked_so : (written : Writing) (sent : Result (Unit {0}) ExchangeFault) (came : Result Answer ExchangeFault) → Starts (text_of base request) (fresh_writing (posted writer)) written sent
-      → SpellsSent base request (fresh_writing (posted writer)) written → IsHeard received request reader sent came → IsAsked received posted base request reader writer came
-  asked_so written (Ok done) came starts spelled heard = asked_whole written came starts spelled heard
-  asked_so written (Err fault) came starts spelled same = subst (λ (r : Result Answer ExchangeFault). IsAsked received posted base request reader writer r) (sym same) (asked_part written fault starts spelled)
-
--- a request that was sent on this stream, and what came there
-pub asked_of : {I O : Type 0} (received : I → Option (List ℕ)) (posted : O → Option (List ℕ)) (base : List ℕ) (f : Flight I O) (stream : I × O) → IsSetOut posted base f.request stream f → (came : Result Answer ExchangeFault)
-    → IsHeard received f.request f.reader f.sent came → IsAsked received posted base f.request stream.0 stream.1 came
-asked_of {I} received posted base f stream set came heard =
-    asked_so received posted base f.request stream.0 stream.1 set.written f.sent came set.starts set.spelled
-    (subst (λ (r : I). IsHeard received f.request r f.sent came) set.reader_is heard)
 
 module _ {J I O : Type 0} (P Q : Type 0) (h : Journals J) (received : I → Option (List ℕ)) (posted : O → Option (List ℕ)) (base : List ℕ) (last : BookMap) where
   -- ---- the records that were begun

@@ -15,6 +15,5 @@ pub mod Flights
 pub mod Reopening
 pub mod Abreast
 pub mod Paces
+pub mod Leading
 pub mod Moves
-pub mod AmongMoves
-pub mod AmongPaces

@@ -1,5 +1,5 @@
 -- The moves of a push at any pace.
-use Rattle.std.proofs.Common.{ℕ, nat_lt, Bool, true, false, List, [], ◌∷◌, ◌++◌, Option, Some, None, Result, Ok, Err, refl, ap, sym, subst, inl, inr}
+use Rattle.std.proofs.Common.{ℕ, List, [], ◌∷◌, ◌++◌, Option, Some, None, Result, Ok, Err, refl, ap, sym, subst, inl, inr}
 use Rattle.std.specs.List.{AllByRecursion}
 use Rattle.source_csv.specs.Records.{IsRow}
 use Rattle.journal_core.specs.declared.journals.Journal.{Ghosts as Journals}
@@ -8,18 +8,17 @@ use Rattle.connector_core.specs.Maps.{BookMap}
 use Rattle.connector_core.specs.State.{State as Connector}
 use Rattle.provisioning.specs.Carrying.{CarriesAt}
 use Rattle.provisioning.specs.Openings.{Opening}
-use Rattle.provisioning.specs.Paces.{PushesBy}
+use Rattle.provisioning.specs.Windows.{window_of}
 use Rattle.provisioning.specs.Runs.{Done}
 use Rattle.provisioning.specs.declared.carrying.Outcome.{Outcome}
 use Rattle.provisioning.specs.declared.faults.RunFault.{RunFault}
 use Rattle.provisioning.specs.declared.offering.Judged.{Judged}
 use Rattle.provisioning.specs.declared.paces.Pace.{Pace}
-use Rattle.provisioning.specs.declared.pushing.Tally.{Tally}
 use Rattle.provisioning.specs.declared.sources.Sources.{Sources}
 use Rattle.promise.specs.Abreast.{AbreastDoes, IsPushAbreast}
 use Rattle.promise.specs.Moves.{AreAmong, Asking, IsPush, Move, Move.offers, Move.asks, Move.hears, Move.serves, PushDoes, rows_of_files, streams_in}
 use Rattle.promise.proofs.Abreast.{abreast_made}
-use Rattle.promise.proofs.Pushes.{among_then, in_turn_made, offers_made, streams_then}
+use Rattle.promise.proofs.Pushes.{among_then, offers_made, streams_then}
 
 -- the exchange that waits, if one does
 abbrev waiting_of : {X : Type 0} → Option X → List X
@@ -67,18 +66,13 @@ module _ {J I O : Type 0} (P Q : Type 0) (h : Journals J) (received : I → Opti
         (among_then (streams_in one.moves) (streams_in more.moves) opened others one.streams more.streams);
   }
 
-  several_made : (several leavers_first : Bool) (opened : List (Opening I O)) (old new : Connector J) (before after : Option (List Done)) (result : Result Tally RunFault)
-      → PushesBy received posted h base several leavers_first opened old new before after result → Makes opened old.book new.book
-  several_made false leavers_first opened old new before after result pushes = as_abreast opened old.book new.book (in_turn_made P Q h received posted base leavers_first opened old new before after result pushes)
-  several_made true leavers_first opened old new before after result pushes = abreast_made P Q h received posted base leavers_first opened old new before after result pushes
-
   pub pace_made : {T : Type 0} (heard : T → Option (List Judged)) (told : T → Option (List Done)) (pace : Pace) (sources : Sources) (opened : List (Opening I O)) (old new : Connector J) (before after : T)
       (result : Result Outcome RunFault) → CarriesAt received posted h pace heard told base sources opened old new before after result
       → AllByRecursion IsRow (rows_of_files sources) → Makes opened old.book new.book
   pace_made heard told pace sources opened old new before after result carries all = elim carries [
     | inl c ↦ then_makes [] opened old.book c.0.book new.book
         (as_abreast [] old.book c.0.book (offers_made P Q h received posted base sources old c.0 (heard before) (heard c.1) (Ok c.2) c.4 all))
-        (several_made (nat_lt 1 pace.streams) pace.leavers_first opened c.0 new (told c.1) (told after) c.3 c.5)
+        (abreast_made P Q h received posted base (window_of pace.streams) pace.leavers_first opened c.0 new (told c.1) (told after) c.3 c.5)
     | inr f ↦ subst (λ (l : List (Opening I O)). Makes l old.book new.book) (sym f.1)
         (as_abreast [] old.book new.book (offers_made P Q h received posted base sources old new (heard before) (heard after) (Err f.0) f.2 all))
   ]

@@ -143,7 +143,7 @@ module _ {J I O : Type 0} (P Q : Type 0) (h : Journals J) (received : I → Opti
         | inr untold ↦ unchanged part.last part.between new untold.1
       ]
 
-  pub in_turn_made : (leavers_first : Bool) (opened : List (Opening I O)) (old new : Connector J) (before after : Option (List Done)) (result : Result Tally RunFault)
+  in_turn_made : (leavers_first : Bool) (opened : List (Opening I O)) (old new : Connector J) (before after : Option (List Done)) (result : Result Tally RunFault)
       → PushesInTurn received posted h base leavers_first opened old new before after result → Makes opened old.book new.book
   in_turn_made leavers_first opened old new before after result pushes = elim pushes [
     | inl some ↦ each_made some.0 opened old new before after result some.2

@@ -33,7 +33,7 @@ use Rattle.promise.specs.Calls.{BringsReply}
 use Rattle.promise.specs.Moves.{Asking}
 use Rattle.promise.specs.Traces.{LeavesBook as LeavesTaught, State, Step, Step.hears, Step.reopens, Trace, Trace.here, Trace.next}
 use Rattle.promise.proofs.Calls.{carried}
-use Rattle.promise.proofs.Flights.{asked_of}
+use Rattle.provisioning.proofs.AskedLemmas.{asked_of}
 
 -- ---- what is noted is noted of a record of the book
 

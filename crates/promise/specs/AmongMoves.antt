@@ -64,19 +64,25 @@ BringsTheirs remaining ours reader =
     × ((m : Message) → IsAtFront request_form came m → AsksAlone ours m)
 
 module _ {I O P Q : Type 0} (received : I → Option (List ℕ)) (remaining : P → Option (List ℕ)) (base : List ℕ)
-    (ours : Names) where
+    (is_theirs : P → Type 0) where
   -- while these moves are made, each connection brings a request of ours that was sent before, or is somebody else's;
   -- and each stream brings what was written before for its request; whole, cut off, late, again or not at all
-  abbrev pub DeliversAmong : List (Move I O P Q) → List Request → List Written → Type 0
-  DeliversAmong [] sent written = ⊤
-  DeliversAmong (offers row ∷ moves) sent written = DeliversAmong moves sent written
-  DeliversAmong (asks e ∷ moves) sent written = DeliversAmong moves (sent ++ e.1.request ∷ []) written
-  DeliversAmong (hears e ∷ moves) sent written =
-      BringsReply received written e.1.request e.1.reader × DeliversAmong moves sent written
-  DeliversAmong (serves c ∷ moves) sent written =
+  abbrev pub DeliversOr : List (Move I O P Q) → List Request → List Written → Type 0
+  DeliversOr [] sent written = ⊤
+  DeliversOr (offers row ∷ moves) sent written = DeliversOr moves sent written
+  DeliversOr (asks e ∷ moves) sent written = DeliversOr moves (sent ++ e.1.request ∷ []) written
+  DeliversOr (hears e ∷ moves) sent written =
+      BringsReply received written e.1.request e.1.reader × DeliversOr moves sent written
+  DeliversOr (serves c ∷ moves) sent written =
       ((request : Request) × BringsRequest remaining base sent c.reader request
-      × DeliversAmong moves sent (written ++ (request, c.out) ∷ []))
-      ⊎ (BringsTheirs remaining ours c.reader × DeliversAmong moves sent written)
+      × DeliversOr moves sent (written ++ (request, c.out) ∷ []))
+      ⊎ (is_theirs c.reader × DeliversOr moves sent written)
+
+-- what somebody else asks for leaves our records alone
+abbrev pub DeliversAmong : {I O P Q : Type 0} → (I → Option (List ℕ)) → (P → Option (List ℕ)) → List ℕ → Names
+    → List (Move I O P Q) → List Request → List Written → Type 0
+DeliversAmong received remaining base ours moves sent written =
+    DeliversOr received remaining base (BringsTheirs remaining ours) moves sent written
 
 -- ---- laws
 

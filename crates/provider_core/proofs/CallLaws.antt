@@ -20,3 +20,16 @@ reads-on g {counts} {old} {middle} {new} {result} one two = record {
   counted = counts-on counts (g.faults old) (g.faults middle) (g.faults new) result one.counted two.counted;
   unwritten = two.unwritten ∙ one.unwritten;
 }
+
+-- a call that read and succeeded, with another value
+pub reads-as : {R T U F G : Type 0} (g : Ghosts R) {first_counts : ℕ → ℕ → F → Type 0} {counts : ℕ → ℕ → G → Type 0} {old new : R} {value : T} {other : U}
+    → Reads g first_counts old new (Ok value) → Reads g counts old new (Ok other)
+reads-as g reads = record {
+  was = reads.was;
+  same = reads.same;
+  honest = reads.honest;
+  opened = reads.opened;
+  stop = reads.stop;
+  counted = reads.counted;
+  unwritten = reads.unwritten;
+}

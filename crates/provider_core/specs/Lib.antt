@@ -6,6 +6,7 @@ pub mod Outcomes
 pub mod Changes
 pub mod Stories
 pub mod Stores
+pub mod Stops
 pub mod Calls
 pub mod Memory
 pub mod MemoryFaults

@@ -1,12 +1,16 @@
 -- What a search finds, and which part of it is shown (RFC 7644 sections 3.4.2.2 and 3.4.2.4).
-use Rattle.std.specs.Prelude.{ℕ, ◌-◌, min, max, ℤ, pos, negsuc, Bool, true, ◌&&◌, List, map, length, take, drop, Option, Some, None}
+use Rattle.std.specs.Prelude.{ℕ, ◌-◌, min, max, ℤ, pos, negsuc, Bool, true, false, ◌&&◌, List, map, length, take, drop, Option, Some, None, is_none}
 use Rattle.std.specs.List.{filter}
+use Rattle.std.specs.Option.{option_and_then}
 use Rattle.scim_key.specs.declared.records.Kind.{Kind}
 use Rattle.scim_resource.specs.Contents.{content_kind}
 use Rattle.scim_resource.specs.Rows.{StoredRecord, ShownRecord, shown}
 use Rattle.scim_filter.specs.Expressions.{Expression}
 use Rattle.scim_filter.specs.Matching.{satisfies}
+use Rattle.scim_filter.specs.Names.{single_key}
 use Rattle.scim_message.specs.declared.lists.ListResponse.{ListResponse}
+use Rattle.scim_message.specs.declared.messages.Request.{Request}
+use Rattle.scim_message.specs.declared.messages.Request.TheVariants.{Create, Retrieve, Search, Replace}
 use Rattle.provider_core.specs.Rows.{same_kind}
 use Rattle.provider_core.specs.declared.searching.TheConstants.{MOST_LISTED}
 
@@ -44,3 +48,10 @@ listing start count resources = record {
   start = first_place start;
   resources = page_from (first_place start) (page_size count) resources;
 }
+
+-- whether a request may ask for all rows: a search does, unless its filter names one record
+abbrev pub reads_all : Request → Bool
+reads_all (Create content) = false
+reads_all (Retrieve kind id if_match if_none_match) = false
+reads_all (Search kind wanted start count) = is_none (option_and_then single_key wanted)
+reads_all (Replace id content if_match if_none_match) = false

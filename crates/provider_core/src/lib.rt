@@ -18,7 +18,7 @@ pub use laws::{
     records_are_found_by_name, requests_write_one_content, rows_follow_stories, stories_only_grow,
     tables_stay_whole,
 };
-pub use meanwhile::{Meanwhile, Nothing};
+pub use meanwhile::{Meanwhile, Nothing, SearchFault};
 pub use memory::MemoryRegistry;
 pub use outcomes::MOST_RESOURCES;
 pub use pending::{Change, Pending};
@@ -26,4 +26,4 @@ pub use provider::{Provider, ProviderFault};
 pub use registry::{ROWS_AT_ONCE, Registry};
 pub use reopening::Reopen;
 pub use scim_message::{Answer, ErrorResponse, ListResponse, Request, Resources};
-pub use searching::MOST_LISTED;
+pub use searching::{MOST_LISTED, reads_all_rows};

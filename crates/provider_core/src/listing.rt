@@ -6,10 +6,11 @@ ghost use Rattle.provider_core.specs.Calls.{Reads};
 ghost use Rattle.provider_core.specs.Listing.{AddsRows, KeepsPlaces, places_of, rows_at};
 ghost use Rattle.provider_core.specs.Outcomes.{outcome};
 ghost use Rattle.provider_core.specs.Rows.{IsNumberedFrom};
+ghost use Rattle.provider_core.specs.Stops.{CountsSearchFault, StopsIf};
 ghost use Rattle.provider_core.specs.Stores.{CountsProviderFault};
 
 use crate::kinds::KindPlaces;
-use crate::meanwhile::Meanwhile;
+use crate::meanwhile::{Meanwhile, SearchFault};
 use crate::pending::Pending;
 use crate::provider::ProviderFault;
 use crate::registry::{ROWS_AT_ONCE, Registry};
@@ -29,14 +30,15 @@ pub(crate) fn list<R: Registry, M: Meanwhile>(
     start: i64,
     count: Option<i64>,
     meanwhile: &mut M,
-) -> Result<Pending, ProviderFault>
+) -> Result<Pending, SearchFault>
     requires { KeepsPlaces R.Registry registry.old places.old }
     ensures ok { R.is_faithful registry.new
         → IfOk result (λ pending. pending
         ≡ outcome (R.rows registry.old) (Request.Search kind None start count)) }
-    ensures reads { Reads R.Registry CountsProviderFault registry.old registry.new result }
+    ensures reads { Reads R.Registry CountsSearchFault registry.old registry.new result }
     ensures places { KeepsPlaces R.Registry registry.new places.new }
     ensures keeps { M.keeps meanwhile.old meanwhile.new }
+    ensures stops { StopsIf (M.stops meanwhile.old) (M.stops meanwhile.new) result }
 {
     let all = registry.count()?;
     let kept = places.take();
@@ -53,14 +55,15 @@ fn kept_or_found<R: Registry, M: Meanwhile>(
     all: u32,
     kept: Option<KindPlaces>,
     meanwhile: &mut M,
-) -> Result<KindPlaces, ProviderFault>
+) -> Result<KindPlaces, SearchFault>
     requires open { R.is_honest registry.old → R.is_faithful registry.old }
     requires counted { R.is_faithful registry.old → all ≡ length (R.rows registry.old) }
     requires kept { KeepsPlaces R.Registry registry.old kept }
     ensures ok { R.is_faithful registry.new →
         IfOk result (λ places. places ≡ places_of (R.rows registry.old)) }
-    ensures reads { Reads R.Registry CountsProviderFault registry.old registry.new result }
+    ensures reads { Reads R.Registry CountsSearchFault registry.old registry.new result }
     ensures keeps { M.keeps meanwhile.old meanwhile.new }
+    ensures stops { StopsIf (M.stops meanwhile.old) (M.stops meanwhile.new) result }
 {
     match kept {
         Some(places) => Ok(places),
@@ -74,19 +77,23 @@ fn find_places<R: Registry, M: Meanwhile>(
     alloc: Global,
     all: u32,
     meanwhile: &mut M,
-) -> Result<KindPlaces, ProviderFault>
+) -> Result<KindPlaces, SearchFault>
     requires open { R.is_honest registry.old → R.is_faithful registry.old }
     requires counted { R.is_faithful registry.old → all ≡ length (R.rows registry.old) }
     ensures ok { R.is_faithful registry.new →
         IfOk result (λ places. places ≡ places_of (R.rows registry.old)) }
-    ensures reads { Reads R.Registry CountsProviderFault registry.old registry.new result }
+    ensures reads { Reads R.Registry CountsSearchFault registry.old registry.new result }
     ensures keeps { M.keeps meanwhile.old meanwhile.new }
+    ensures stops { StopsIf (M.stops meanwhile.old) (M.stops meanwhile.new) result }
 {
     let mut places = KindPlaces::new(alloc);
     let mut after = 0;
     while after < all {
         add_page(registry, after, &mut places)?;
-        meanwhile.after_page();
+        let goes_on = meanwhile.after_page();
+        if !goes_on {
+            return Err(SearchFault::Stopped);
+        }
         after = after.saturating_add(ROWS_AT_ONCE);
     }
     Ok(places)

@@ -1,5 +1,5 @@
 //! The provider over a registry.
-ghost use Rattle.std.specs.Prelude.{◌≡◌, ◌+◌, ◌++◌, ◌∷◌, [], length, take, drop, IfOk, OnOk};
+ghost use Rattle.std.specs.Prelude.{◌≡◌, ◌+◌, ◌++◌, ◌∷◌, [], false, is_none, length, take, drop, IfOk, OnOk};
 ghost use Rattle.std.specs.Option.{option_and_then};
 ghost use Rattle.scim_filter.specs.Names.{single_key};
 ghost use Rattle.scim_resource.specs.Contents.{content_name};
@@ -8,11 +8,13 @@ ghost use Rattle.provider_core.specs.Gathering.{Gathers, GoesThrough};
 ghost use Rattle.provider_core.specs.Rows.{count_if_free, resource, row_named};
 ghost use Rattle.provider_core.specs.Stores.{CountsFault, CountsProviderFault};
 ghost use Rattle.provider_core.specs.Calls.{Reads, Writes, OpensAgain};
+ghost use Rattle.provider_core.specs.Searches.{reads_all};
+ghost use Rattle.provider_core.specs.Stops.{CountsSearchFault, StopsIf};
 ghost use Rattle.provider_core.specs.declared.provider.ProviderFault.TheVariants as provider_faults;
 
 use crate::kinds::{KindPlaces, add_kept};
 use crate::listing::list;
-use crate::meanwhile::{Meanwhile, Nothing};
+use crate::meanwhile::{Meanwhile, Nothing, SearchFault};
 use crate::outcomes::{MOST_RESOURCES, insertion, is_of_kind, refusal, replacement, retrieval};
 use crate::pending::{Change, Pending};
 use crate::registry::{ROWS_AT_ONCE, Registry};
@@ -120,7 +122,7 @@ impl<R: Registry> Provider<R> {
                 filter,
                 start,
                 count,
-            } => self.prepare_search(alloc, *kind, filter, *start, *count, &mut Nothing),
+            } => self.prepare_alone(alloc, *kind, filter, *start, *count),
             Request::Replace {
                 id,
                 content,
@@ -130,27 +132,29 @@ impl<R: Registry> Provider<R> {
         }
     }
 
-    /// Forms the answer as `prepare` does, without a copy of the content. If it looks through all rows, something
-    /// else goes on after each page of rows.
+    /// Forms the answer as `prepare` does, without a copy of the content. If it looks through all rows, somebody else
+    /// goes on after each page of rows, and may stop the search.
     pub fn prepare_meanwhile<M: Meanwhile>(
         &mut self,
         alloc: Global,
         request: Request,
         meanwhile: &mut M,
-    ) -> Result<Pending, ProviderFault>
+    ) -> Result<Pending, SearchFault>
         ensures ok { R.is_faithful self.new →
             IfOk result (λ pending. pending ≡ outcome (R.rows self.old) request) }
-        ensures reads { Reads R.Registry CountsProviderFault self.old self.new result }
+        ensures reads { Reads R.Registry CountsSearchFault self.old self.new result }
         ensures keeps { M.keeps meanwhile.old meanwhile.new }
+        ensures stops { StopsIf (M.stops meanwhile.old) (M.stops meanwhile.new) result }
+        ensures alone { reads_all request ≡ false → meanwhile.new ≡ meanwhile.old }
     {
         match request {
-            Request::Create { content } => self.prepare_create(alloc, content),
+            Request::Create { content } => Ok(self.prepare_create(alloc, content)?),
             Request::Retrieve {
                 kind,
                 id,
                 if_match,
                 if_none_match,
-            } => self.prepare_retrieve(alloc, kind, &id, &if_match, &if_none_match),
+            } => Ok(self.prepare_retrieve(alloc, kind, &id, &if_match, &if_none_match)?),
             Request::Search {
                 kind,
                 filter,
@@ -162,7 +166,7 @@ impl<R: Registry> Provider<R> {
                 content,
                 if_match,
                 if_none_match,
-            } => self.prepare_replace(alloc, &id, content, &if_match, &if_none_match),
+            } => Ok(self.prepare_replace(alloc, &id, content, &if_match, &if_none_match)?),
         }
     }
 
@@ -226,6 +230,27 @@ impl<R: Registry> Provider<R> {
         }
     }
 
+    /// A search that nobody stops.
+    fn prepare_alone(
+        &mut self,
+        alloc: Global,
+        kind: Kind,
+        filter: &Option<Filter>,
+        start: i64,
+        count: Option<i64>,
+    ) -> Result<Pending, ProviderFault>
+        ensures ok { R.is_faithful self.new
+            → IfOk result (λ pending. pending
+            ≡ outcome (R.rows self.old) (Request.Search kind filter.now start count)) }
+        ensures reads { Reads R.Registry CountsProviderFault self.old self.new result }
+    {
+        match self.prepare_search(alloc, kind, filter, start, count, &mut Nothing) {
+            Ok(pending) => Ok(pending),
+            Err(SearchFault::Provider(fault)) => Err(fault),
+            Err(SearchFault::Stopped) => unreachable!(),
+        }
+    }
+
     fn prepare_search<M: Meanwhile>(
         &mut self,
         alloc: Global,
@@ -234,12 +259,15 @@ impl<R: Registry> Provider<R> {
         start: i64,
         count: Option<i64>,
         meanwhile: &mut M,
-    ) -> Result<Pending, ProviderFault>
+    ) -> Result<Pending, SearchFault>
         ensures ok { R.is_faithful self.new
             → IfOk result (λ pending. pending
             ≡ outcome (R.rows self.old) (Request.Search kind filter.now start count)) }
-        ensures reads { Reads R.Registry CountsProviderFault self.old self.new result }
+        ensures reads { Reads R.Registry CountsSearchFault self.old self.new result }
         ensures keeps { M.keeps meanwhile.old meanwhile.new }
+        ensures stops { StopsIf (M.stops meanwhile.old) (M.stops meanwhile.new) result }
+        ensures alone { is_none (option_and_then single_key filter.now) ≡ false
+            → meanwhile.new ≡ meanwhile.old }
     {
         if filter.is_none() {
             return self.prepare_list(alloc, kind, start, count, meanwhile);
@@ -256,12 +284,13 @@ impl<R: Registry> Provider<R> {
         start: i64,
         count: Option<i64>,
         meanwhile: &mut M,
-    ) -> Result<Pending, ProviderFault>
+    ) -> Result<Pending, SearchFault>
         ensures ok { R.is_faithful self.new
             → IfOk result (λ pending. pending
             ≡ outcome (R.rows self.old) (Request.Search kind None start count)) }
-        ensures reads { Reads R.Registry CountsProviderFault self.old self.new result }
+        ensures reads { Reads R.Registry CountsSearchFault self.old self.new result }
         ensures keeps { M.keeps meanwhile.old meanwhile.new }
+        ensures stops { StopsIf (M.stops meanwhile.old) (M.stops meanwhile.new) result }
     {
         list(
             &mut self.registry,
@@ -282,14 +311,17 @@ impl<R: Registry> Provider<R> {
         filter: &Option<Filter>,
         gathered: &mut Gathered,
         meanwhile: &mut M,
-    ) -> Result<(), ProviderFault>
+    ) -> Result<(), SearchFault>
         ensures ok { R.is_faithful self.new →
             OnOk result (Gathers kind filter.now (R.rows self.old) gathered.old gathered.new) }
-        ensures reads { Reads R.Registry CountsProviderFault self.old self.new result }
+        ensures reads { Reads R.Registry CountsSearchFault self.old self.new result }
         ensures keeps { M.keeps meanwhile.old meanwhile.new }
+        ensures stops { StopsIf (M.stops meanwhile.old) (M.stops meanwhile.new) result }
+        ensures alone { is_none (option_and_then single_key filter.now) ≡ false
+            → meanwhile.new ≡ meanwhile.old }
     {
         match single_key(alloc, filter)? {
-            Some(name) => self.gather_named(kind, filter, &name, gathered),
+            Some(name) => Ok(self.gather_named(kind, filter, &name, gathered)?),
             None => self.gather_all(kind, filter, gathered, meanwhile),
         }
     }
@@ -320,17 +352,21 @@ impl<R: Registry> Provider<R> {
         filter: &Option<Filter>,
         gathered: &mut Gathered,
         meanwhile: &mut M,
-    ) -> Result<(), ProviderFault>
+    ) -> Result<(), SearchFault>
         ensures ok { R.is_faithful self.new →
             OnOk result (Gathers kind filter.now (R.rows self.old) gathered.old gathered.new) }
-        ensures reads { Reads R.Registry CountsProviderFault self.old self.new result }
+        ensures reads { Reads R.Registry CountsSearchFault self.old self.new result }
         ensures keeps { M.keeps meanwhile.old meanwhile.new }
+        ensures stops { StopsIf (M.stops meanwhile.old) (M.stops meanwhile.new) result }
     {
         let all = self.registry.count()?;
         let mut after = 0;
         while after < all {
             self.gather_page(kind, filter, after, gathered)?;
-            meanwhile.after_page();
+            let goes_on = meanwhile.after_page();
+            if !goes_on {
+                return Err(SearchFault::Stopped);
+            }
             after = after.saturating_add(ROWS_AT_ONCE);
         }
         Ok(())

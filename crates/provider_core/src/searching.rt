@@ -13,7 +13,7 @@ use crate::pending::Pending;
 use crate::registry::ROWS_AT_ONCE;
 use scim_filter::Filter;
 use scim_key::{Kind, RecordName};
-use scim_message::{Answer, ListResponse, Resources};
+use scim_message::{Answer, ListResponse, Request, Resources};
 use scim_resource::{Shown, Stored};
 use std::alloc::{AllocError, Global};
 use std::marker::Model;
@@ -168,6 +168,17 @@ fn is_wanted(filter: &Option<Filter>, row: &Stored) -> bool
     match filter {
         Some(filter) => filter.matches(row),
         None => true,
+    }
+}
+
+/// Whether the provider reads all rows for a request: for a search, unless its filter names one record. A list without
+/// a filter reads them all only if their places aren't known yet.
+pub fn reads_all_rows(alloc: Global, request: &Request) -> Result<bool, AllocError>
+    ensures { IfOk result (λ reads_all. reads_all ≡ spec.reads_all request.now) }
+{
+    match request {
+        Request::Search { filter, .. } => Ok(single_key(alloc, filter)?.is_none()),
+        Request::Create { .. } | Request::Retrieve { .. } | Request::Replace { .. } => Ok(false),
     }
 }
 

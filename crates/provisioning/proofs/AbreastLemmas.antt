@@ -18,20 +18,20 @@ use Rattle.provisioning.specs.declared.tracks.Track.{Track}
 use Rattle.provisioning.specs.declared.tracks.Track.TheVariants.{UnderWay, Done as IsDone}
 use Rattle.scim_key.specs.declared.records.RecordName.{RecordName}
 
-module _ {I O J : Type 0} (remaining : I → Option (List ℕ)) (contents : O → Option (List ℕ)) (g : Ghosts J) (base : List ℕ) where
+module _ {I O J : Type 0} (remaining : I → Option (List ℕ)) (contents : O → Option (List ℕ)) (g : Ghosts J) (base : List ℕ) (window : ℕ) where
   same_onward : (old new : State J) → new ≡ old → Onward old.book new.book
   same_onward old new same = subst (λ (s : State J). Onward old.book s.book) (sym same) (onward_still old.book)
 
   learnt_onward : (f : Flight I O) (old new : State J) (result : Result (Option RecordFault) RunFault) → IsLearnt remaining g f old new result → Onward old.book new.book
   learnt_onward f old new result l = becomes_onward g f.request l.came old new l.becomes
 
-  move_onward : (opened : List (Opening I O)) (told : List Done) (old new : Scene I O J) → IsMove remaining contents g base opened told old new → Onward old.state.book new.state.book
+  move_onward : (opened : List (Opening I O)) (told : List Done) (old new : Scene I O J) → IsMove remaining contents g base window opened told old new → Onward old.state.book new.state.book
   move_onward opened told old new (inl b) = same_onward old.state new.state b.state
   move_onward opened told old new (inr (inl c)) = learnt_onward c.flight old.state new.state (Ok c.fault) c.learnt
   move_onward opened told old new (inr (inr (inl r))) = same_onward old.state new.state r.state
   move_onward opened told old new (inr (inr (inr m))) = same_onward old.state new.state m.state
 
-  moves_onward : (ps : List (Point I O J)) (opened : List (Opening I O)) (told : List Done) (old new : Scene I O J) → AreMoves remaining contents g base ps opened told old new → Onward old.state.book new.state.book
+  moves_onward : (ps : List (Point I O J)) (opened : List (Opening I O)) (told : List Done) (old new : Scene I O J) → AreMoves remaining contents g base window ps opened told old new → Onward old.state.book new.state.book
   moves_onward [] opened told old new (a, b, same) = same_onward old.state new.state (ap (λ (s : Scene I O J). s.state) same)
   moves_onward (p ∷ ps) opened told old new m =
       onward_more old.state.book p.scene.state.book new.state.book (move_onward p.opened p.told old p.scene m.4) (moves_onward ps m.0 m.1 p.scene new m.5)
@@ -41,7 +41,7 @@ module _ {I O J : Type 0} (remaining : I → Option (List ℕ)) (contents : O �
   advances_onward (UnderWay a f) opened old new result (inr e) = learnt_onward f old new (Err e.0) e.1
   advances_onward (IsDone a standing) opened old new result (none, same, is) = same_onward old new same
 
-  causes_onward : (last : List (Opening I O)) (scene : Scene I O J) (rest : List (Track I O)) (new : State J) (fault : RunFault) → Causes remaining contents g base last scene rest new fault → Onward scene.state.book new.book
+  causes_onward : (last : List (Opening I O)) (scene : Scene I O J) (rest : List (Track I O)) (new : State J) (fault : RunFault) → Causes remaining contents g base window last scene rest new fault → Onward scene.state.book new.book
   causes_onward last scene rest new fault (inl c) = same_onward scene.state new c.1
   causes_onward last scene rest new fault (inr (inl c)) = advances_onward c.0 last scene.state new (Err fault) c.2
   causes_onward last scene rest new fault (inr (inr c)) = same_onward scene.state new c.4
@@ -56,7 +56,7 @@ module _ {I O J : Type 0} (remaining : I → Option (List ℕ)) (contents : O �
   looks_onward (track ∷ tracks) old new l = onward_more old.book l.1.book new.book (closes_onward track old l.1 l.0 l.2) (looks_onward tracks l.1 new l.3)
 
   pub abreast_onward : (names : List RecordName) (opened : List (Opening I O)) (old new : State J) (before after : Option (List Done)) (result : Result Tally RunFault)
-      → PushesAbreast remaining contents g base names opened old new before after result → Onward old.book new.book
+      → PushesAbreast remaining contents g base window names opened old new before after result → Onward old.book new.book
   abreast_onward names opened old new before after (Ok tally) all = moves_onward all.moves.0 opened all.done _ _ all.moves.1
   abreast_onward names opened old new before after (Err fault) part =
       onward_more old.book part.between.book new.book
@@ -66,17 +66,17 @@ module _ {I O J : Type 0} (remaining : I → Option (List ℕ)) (contents : O �
       (looks_onward part.rest part.between new part.looked)
 
   pub both_onward : (users groups : List RecordName) (opened : List (Opening I O)) (old new : State J) (before after : Option (List Done)) (result : Result Tally RunFault)
-      → PushesBoth remaining contents g base users groups opened old new before after result → Onward old.book new.book
+      → PushesBoth remaining contents g base window users groups opened old new before after result → Onward old.book new.book
   both_onward users groups opened old new before after result (inl (first, last, between, then, tally, more, opened_are, all, rest, is)) =
       onward_more old.book between.book new.book (abreast_onward users first old between before then (Ok tally) all) (abreast_onward groups last between new then after more rest)
   both_onward users groups opened old new before after result (inr (fault, part, is)) = abreast_onward users opened old new before after (Err fault) part
 
   -- users and groups, split by their count
   pub both_of : (names all users groups : List RecordName) (count : ℕ) (opened : List (Opening I O)) (old new : State J) (before after : Option (List Done)) (result : Result Tally RunFault)
-      → all ≡ names → users ≡ take count all → groups ≡ drop count all → count ≡ prefix_len is_user names → PushesBoth remaining contents g base users groups opened old new before after result
-      → PushesBoth remaining contents g base (users_of names) (groups_of names) opened old new before after result
+      → all ≡ names → users ≡ take count all → groups ≡ drop count all → count ≡ prefix_len is_user names → PushesBoth remaining contents g base window users groups opened old new before after result
+      → PushesBoth remaining contents g base window (users_of names) (groups_of names) opened old new before after result
   both_of names all users groups count opened old new before after result same front back counted b =
       let users_are : users ≡ users_of names = front ∙ ap (λ (xs : List RecordName). take count xs) same ∙ ap (λ (n : ℕ). take n names) counted in
       let groups_are : groups ≡ groups_of names = back ∙ ap (λ (xs : List RecordName). drop count xs) same ∙ ap (λ (n : ℕ). drop n names) counted in
-      subst (λ (xs : List RecordName). PushesBoth remaining contents g base xs (groups_of names) opened old new before after result) users_are
-      (subst (λ (xs : List RecordName). PushesBoth remaining contents g base users xs opened old new before after result) groups_are b)
+      subst (λ (xs : List RecordName). PushesBoth remaining contents g base window xs (groups_of names) opened old new before after result) users_are
+      (subst (λ (xs : List RecordName). PushesBoth remaining contents g base window users xs opened old new before after result) groups_are b)

@@ -24,3 +24,11 @@ module _ {I O J : Type 0} (pushes : (opened : List (Opening I O)) → (old new :
       → CarriesBy pushes g heard told sources opened old new (inner before) (inner after) result
   told_by inner heard told before after result (inl all) = inl (all.0, inner all.1, all.2, all.3, all.4, all.5, all.6)
   told_by inner heard told before after result (inr part) = inr part
+
+-- what is true of every push is true of the push of a run
+pub carries_as : {I O J T : Type 0} (one other : (opened : List (Opening I O)) → (old new : State J) → (before after : Option (List Done)) → Result Tally RunFault → Type 0)
+    → ((opened : List (Opening I O)) (old new : State J) (before after : Option (List Done)) (result : Result Tally RunFault) → one opened old new before after result → other opened old new before after result)
+    → (g : Ghosts J) (heard : T → Option (List Judged)) (told : T → Option (List Done)) (sources : Sources) (opened : List (Opening I O)) (old new : State J) (before after : T) (result : Result Outcome RunFault)
+    → CarriesBy one g heard told sources opened old new before after result → CarriesBy other g heard told sources opened old new before after result
+carries_as one other turns g heard told sources opened old new before after result (inl all) = inl (all.0, all.1, all.2, all.3, all.4, turns opened all.0 new (told all.1) (told after) all.3 all.5, all.6)
+carries_as one other turns g heard told sources opened old new before after result (inr part) = inr part

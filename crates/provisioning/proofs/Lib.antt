@@ -4,10 +4,11 @@ mod RestLemmas
 mod RunLemmas
 mod TurnLemmas
 pub mod CarryLemmas
-mod OfferLemmas
+pub mod OfferLemmas
 mod MoveLemmas
 mod TrackLemmas
 mod WindowLemmas
 mod AbreastLemmas
-mod DryLemmas
+pub mod AskedLemmas
+pub mod InTurnLemmas
 mod PlanLemmas

@@ -30,7 +30,7 @@ module _ {J : Type 0} (g : Ghosts J) (sources : Sources) (old new : State J) (he
       → IfErr r IsUntold → Plans g sources old new heard later before after r
   planned (Ok plan) offers are plans fault =
       (taken, offers, plans.1, plans.0 ∙ ap (λ (xs : List RecordName). record { is_taken = taken && are_whole sources; leavers = count_by (is_switched_off (book_of new.book)) xs }) are)
-  planned (Err untold) offers are plans fault = inr (inl (taken, offers, fault))
+  planned (Err ending) offers are plans fault = inr (inl (taken, offers, fault))
 
 pub appends_more : (before middle after : Option (List ℕ)) (first second : List ℕ) → Appends before middle first → Appends middle after second → Appends before after (first ++ second)
 appends_more None middle after first second one two = tt

@@ -1,5 +1,6 @@
 -- How a record goes on while several are under way.
-use Rattle.std.proofs.Common.{◌≡◌, ◌<◌, ◌≤◌, ℕ, List, [], ◌∷◌, Option, Some, Result, Ok, Err, inl, inr, refl, ap, sym, ◌∙◌, subst}
+use Rattle.std.proofs.Common.{◌≡◌, ◌<◌, ◌≤◌, ℕ, List, [], ◌∷◌, Option, Some, None, Result, Ok, Err, inl, inr, refl, ap, sym, ◌∙◌, subst}
+use Rattle.std.specs.Option.{ok_or}
 use Rattle.scim_message.specs.declared.messages.Answer.{Answer}
 use Rattle.scim_message.specs.declared.messages.Request.{Request}
 use Rattle.scim_client.specs.declared.exchange.ExchangeFault.{ExchangeFault}
@@ -8,7 +9,9 @@ use Rattle.connector_core.specs.Asking.{asking}
 use Rattle.connector_core.specs.Book.{Book}
 use Rattle.connector_core.specs.Maps.{book_of}
 use Rattle.connector_core.specs.State.{State}
+use Rattle.connector_core.specs.declared.asking.Ask.{Ask}
 use Rattle.connector_core.specs.declared.asking.Ask.TheVariants.{Send}
+use Rattle.connector_core.specs.declared.asking.AskFault.TheVariants as faults
 use Rattle.provisioning.specs.Exchanges.{IsTaken}
 use Rattle.provisioning.specs.Openings.{Opening}
 use Rattle.provisioning.specs.Records.{Stands, most_exchanges}
@@ -20,6 +23,11 @@ use Rattle.provisioning.specs.declared.tracks.Account.{Account}
 use Rattle.provisioning.specs.declared.tracks.Flight.{Flight}
 use Rattle.provisioning.specs.declared.tracks.Track.{Track}
 use Rattle.provisioning.specs.declared.tracks.Track.TheVariants.{UnderWay}
+
+-- what was asked
+pub was_asked : (o : Option Ask) (a : Ask) → ok_or o faults.NoSuchRecord ≡ Ok a → o ≡ Some a
+was_asked None a is = absurd (cc)
+was_asked (Some b) a is = cc
 
 pub spent_at : (book : Book) (a : Account) (standing : Standing) → most_exchanges ≤ a.exchanges → Stands book a.name most_exchanges a.last standing → StandsAt book a standing
 spent_at book a standing all (inl rests) = inl rests
@@ -38,7 +46,7 @@ went_on {I} {O} contents base a book request (Ok stream) result left asked (f, s
       later_is = refl;
     })
 went_on {I} {O} contents base a book request (Err error) result left asked is =
-    subst (λ (r : Result (Track I O) RunFault). GoesOn contents base a (Err error ∷ []) book r) (sym is) (inl (error, refl, refl))
+    subst (λ (r : Result (Track I O) RunFault). GoesOn contents base a (Err error ∷ []) book r) (sym is) (left, inl (error, refl, refl))
 
 pub learnt_by : {I O J : Type 0} (remaining : I → Option (List ℕ)) (g : Ghosts J) (f : Flight I O) (came : Result Answer ExchangeFault) (old new : State J) (result : Result (Option RecordFault) RunFault)
     → IsHeard remaining f.request f.reader f.sent came → IsTaken g f.request came old new result → IsLearnt remaining g f old new result

@@ -9,7 +9,6 @@ use Rattle.connector_core.specs.State.{State}
 use Rattle.provisioning.proofs.ListLemmas.{adds_more, adds_none}
 use Rattle.provisioning.proofs.MoveLemmas.{looks_more, moves_beside, moves_more, no_moves, one_move, stops_beside, stops_here, stops_more, with_back, with_front}
 use Rattle.provisioning.proofs.RunLemmas.{tally_next}
-use Rattle.provisioning.specs.Exchanges.{IsUnmade}
 use Rattle.provisioning.specs.Openings.{Opening}
 use Rattle.provisioning.specs.Records.{most_exchanges}
 use Rattle.provisioning.specs.Runs.{Done, IsUntold, Tells, tally_of, tally_with}
@@ -54,7 +53,7 @@ pub record IsTurned {I O : Type 0} (all : List (Track I O)) (ts : List (Track I 
 pub not_turned : {I O : Type 0} (all : List (Track I O)) → IsTurned all all 0
 not_turned all = record { rest = all; done = []; split = sym (append-nil all); names = refl; left = omega arith }
 
-module _ {I O J : Type 0} (remaining : I → Option (List ℕ)) (contents : O → Option (List ℕ)) (g : Ghosts J) (base : List ℕ) where
+module _ {I O J : Type 0} (remaining : I → Option (List ℕ)) (contents : O → Option (List ℕ)) (g : Ghosts J) (base : List ℕ) (window : ℕ) where
   -- ---- beginning
 
   pub begun_name : (a : Account) (opened : List (Opening I O)) (book : Book) (track : Track I O) → Begins contents base a opened book track → name_of track ≡ a.name
@@ -62,11 +61,12 @@ module _ {I O J : Type 0} (remaining : I → Option (List ℕ)) (contents : O �
   begun_name a opened book (IsDone later standing) b = ap (λ (x : Account). x.name) b.1
 
   begins_at : (name : RecordName) (opened : List (Opening I O)) (track : Track I O) (waiting later : List RecordName) (ts us : List (Track I O)) (state : State J)
-      → waiting ≡ name ∷ later → IsWith track ts us → Begins contents base (fresh name) opened (book_of state.book) track
-      → Moves remaining contents g base opened [] (scene waiting ts state) (scene later us state)
-  begins_at name opened track waiting later ts us state waits with begins = one_move remaining contents g base opened [] (scene waiting ts state) (scene later us state) (inl (record {
+      → length ts < window → waiting ≡ name ∷ later → IsWith track ts us → Begins contents base (fresh name) opened (book_of state.book) track
+      → Moves remaining contents g base window opened [] (scene waiting ts state) (scene later us state)
+  begins_at name opened track waiting later ts us state room waits with begins = one_move remaining contents g base window opened [] (scene waiting ts state) (scene later us state) (inl (record {
     name = name;
     track = track;
+    room = room;
     waiting = waits;
     tracks = with;
     begins = begins;
@@ -75,62 +75,63 @@ module _ {I O J : Type 0} (remaining : I → Option (List ℕ)) (contents : O �
   }))
 
   pub goes_more : (first then : List (Opening I O)) (old between new : Scene I O J) (result : Result (Unit {0}) RunFault)
-      → Goes remaining contents g base first old between (Ok tt) → Goes remaining contents g base then between new result → Goes remaining contents g base (first ++ then) old new result
-  goes_more first then old between new (Ok done) a b = (moves_more remaining contents g base first then [] [] old between new a.0 b.0, b.1 ∙ a.1)
-  goes_more first then old between new (Err fault) a b = stops_more remaining contents g base first then [] [] old between new.tracks new.state fault a.0 b
+      → Goes remaining contents g base window first old between (Ok tt) → Goes remaining contents g base window then between new result → Goes remaining contents g base window (first ++ then) old new result
+  goes_more first then old between new (Ok done) a b = (moves_more remaining contents g base window first then [] [] old between new a.0 b.0, b.1 ∙ a.1)
+  goes_more first then old between new (Err fault) a b = stops_more remaining contents g base window first then [] [] old between new.tracks new.state fault a.0 b
 
-  pub goes_none : (here : Scene I O J) → Goes remaining contents g base [] here here (Ok tt)
-  goes_none here = (no_moves remaining contents g base here, refl)
+  pub goes_none : (here : Scene I O J) → Goes remaining contents g base window [] here here (Ok tt)
+  goes_none here = (no_moves remaining contents g base window here, refl)
 
   -- one record more, at the end of the window
   begins_end : (opened : List (Opening I O)) (waiting later : List RecordName) (ts : List (Track I O)) (state : State J) (track : Track I O)
-      → BeginsNext contents base opened waiting later (book_of state.book) (Ok (Some track)) → Goes remaining contents g base opened (scene waiting ts state) (scene later (ts ++ track ∷ []) state) (Ok tt)
-  begins_end opened waiting later ts state track (name, waits, begins) = (
-    begins_at name opened track waiting later ts (ts ++ track ∷ []) state waits (with_back track ts) begins,
+      → length ts < window → BeginsNext contents base opened waiting later (book_of state.book) (Ok (Some track)) → Goes remaining contents g base window opened (scene waiting ts state) (scene later (ts ++ track ∷ []) state) (Ok tt)
+  begins_end opened waiting later ts state track room (name, waits, begins) = (
+    begins_at name opened track waiting later ts (ts ++ track ∷ []) state room waits (with_back track ts) begins,
     names_push ts track later ∙ ap (λ (n : RecordName). map name_of ts ++ n ∷ later) (begun_name (fresh name) opened (book_of state.book) track begins) ∙ ap (λ xs. map name_of ts ++ xs) (sym waits),
   )
 
   pub begins_last : (opened : List (Opening I O)) (waiting later : List RecordName) (ts us : List (Track I O)) (state : State J) (track : Track I O) (o : Option (Track I O))
-      → o ≡ Some track → us ≡ ts ++ track ∷ [] → BeginsNext contents base opened waiting later (book_of state.book) (Ok o) → Goes remaining contents g base opened (scene waiting ts state) (scene later us state) (Ok tt)
-  begins_last opened waiting later ts us state track o some end begins =
-      subst (λ (xs : List (Track I O)). Goes remaining contents g base opened (scene waiting ts state) (scene later xs state) (Ok tt)) (sym end)
-      (begins_end opened waiting later ts state track (subst (λ (x : Option (Track I O)). BeginsNext contents base opened waiting later (book_of state.book) (Ok x)) some begins))
+      → length ts < window → o ≡ Some track → us ≡ ts ++ track ∷ [] → BeginsNext contents base opened waiting later (book_of state.book) (Ok o) → Goes remaining contents g base window opened (scene waiting ts state) (scene later us state) (Ok tt)
+  begins_last opened waiting later ts us state track o room some end begins =
+      subst (λ (xs : List (Track I O)). Goes remaining contents g base window opened (scene waiting ts state) (scene later xs state) (Ok tt)) (sym end)
+      (begins_end opened waiting later ts state track room (subst (λ (x : Option (Track I O)). BeginsNext contents base opened waiting later (book_of state.book) (Ok x)) some begins))
 
   pub begins_none : (opened : List (Opening I O)) (waiting later : List RecordName) (ts : List (Track I O)) (state : State J)
-      → BeginsNext contents base opened waiting later (book_of state.book) (Ok None) → Goes remaining contents g base opened (scene waiting ts state) (scene later ts state) (Ok tt)
+      → BeginsNext contents base opened waiting later (book_of state.book) (Ok None) → Goes remaining contents g base window opened (scene waiting ts state) (scene later ts state) (Ok tt)
   begins_none opened waiting later ts state (none, waits, left) =
-      subst (λ (o : List (Opening I O)). Goes remaining contents g base o (scene waiting ts state) (scene later ts state) (Ok tt)) (sym none)
-      (subst (λ (w : List RecordName). Goes remaining contents g base [] (scene waiting ts state) (scene w ts state) (Ok tt)) (waits ∙ sym left) (goes_none (scene waiting ts state)))
+      subst (λ (o : List (Opening I O)). Goes remaining contents g base window o (scene waiting ts state) (scene later ts state) (Ok tt)) (sym none)
+      (subst (λ (w : List RecordName). Goes remaining contents g base window [] (scene waiting ts state) (scene w ts state) (Ok tt)) (waits ∙ sym left) (goes_none (scene waiting ts state)))
 
   pub begins_not : (opened : List (Opening I O)) (waiting later : List RecordName) (ts : List (Track I O)) (state : State J) (fault : RunFault)
-      → IsUnmade opened fault → Goes remaining contents g base opened (scene waiting ts state) (scene later ts state) (Err fault)
-  begins_not opened waiting later ts state fault unmade = stops_here remaining contents g base opened (scene waiting ts state) ts state fault (inl (refl, refl, unmade))
+      → length ts < window → BeginsNext contents base opened waiting later (book_of state.book) (Err fault) → Goes remaining contents g base window opened (scene waiting ts state) (scene later ts state) (Err fault)
+  begins_not opened waiting later ts state fault room (name, waits, unmade) =
+      stops_here remaining contents g base window opened (scene waiting ts state) ts state fault (inl (refl, refl, record { room = room; unmade = unmade; waits = inr (name, later, waits) }))
 
   -- the first record, if none was begun
   begins_alone : (opened : List (Opening I O)) (waiting later : List RecordName) (state : State J) (result : Result (Option (Track I O)) RunFault)
-      → BeginsNext contents base opened waiting later (book_of state.book) result
-      → TakesFirst remaining contents g base opened (scene waiting [] state) (scene later [] state) result
-  begins_alone opened waiting later state (Ok (Some track)) (name, waits, begins) = (
-    begins_at name opened track waiting later [] (track ∷ []) state waits (with_front track []) begins,
+      → 0 < window → BeginsNext contents base opened waiting later (book_of state.book) result
+      → TakesFirst remaining contents g base window opened (scene waiting [] state) (scene later [] state) result
+  begins_alone opened waiting later state (Ok (Some track)) room (name, waits, begins) = (
+    begins_at name opened track waiting later [] (track ∷ []) state room waits (with_front track []) begins,
     ap (λ (n : RecordName). n ∷ later) (begun_name (fresh name) opened (book_of state.book) track begins) ∙ sym waits,
   )
-  begins_alone opened waiting later state (Ok None) (none, waits, left) =
+  begins_alone opened waiting later state (Ok None) room (none, waits, left) =
       (none, ap (λ (w : List RecordName). scene w [] state) (left ∙ sym waits), waits, refl, left)
-  begins_alone opened waiting later state (Err fault) unmade = begins_not opened waiting later [] state fault unmade
+  begins_alone opened waiting later state (Err fault) room unbegun = begins_not opened waiting later [] state fault room unbegun
 
   pub begins_first : (opened : List (Opening I O)) (waiting later : List RecordName) (ts us : List (Track I O)) (state : State J) (result : Result (Option (Track I O)) RunFault)
-      → ts ≡ us → us ≡ drop 1 ts → BeginsNext contents base opened waiting later (book_of state.book) result
-      → TakesFirst remaining contents g base opened (scene waiting ts state) (scene later us state) result
-  begins_first opened waiting later ts us state result same rest begins =
+      → 0 < window → ts ≡ us → us ≡ drop 1 ts → BeginsNext contents base opened waiting later (book_of state.book) result
+      → TakesFirst remaining contents g base window opened (scene waiting ts state) (scene later us state) result
+  begins_first opened waiting later ts us state result room same rest begins =
       let none : ts ≡ [] = none_left ts (same ∙ rest) in
-      subst (λ (xs : List (Track I O)). TakesFirst remaining contents g base opened (scene waiting xs state) (scene later us state) result) (sym none)
-      (subst (λ (xs : List (Track I O)). TakesFirst remaining contents g base opened (scene waiting [] state) (scene later xs state) result) (sym none ∙ same)
-      (begins_alone opened waiting later state result begins))
+      subst (λ (xs : List (Track I O)). TakesFirst remaining contents g base window opened (scene waiting xs state) (scene later us state) result) (sym none)
+      (subst (λ (xs : List (Track I O)). TakesFirst remaining contents g base window opened (scene waiting [] state) (scene later xs state) result) (sym none ∙ same)
+      (begins_alone opened waiting later state result room begins))
 
   pub takes_first : (waiting : List RecordName) (ts us : List (Track I O)) (state : State J) (track : Track I O) → ts ≡ track ∷ us
-      → TakesFirst remaining contents g base [] (scene waiting ts state) (scene waiting us state) (Ok (Some track))
+      → TakesFirst remaining contents g base window [] (scene waiting ts state) (scene waiting us state) (Ok (Some track))
   takes_first waiting ts us state track is = (
-    subst (λ (xs : List (Track I O)). Moves remaining contents g base [] [] (scene waiting ts state) (scene waiting xs state)) is (no_moves remaining contents g base (scene waiting ts state)),
+    subst (λ (xs : List (Track I O)). Moves remaining contents g base window [] [] (scene waiting ts state) (scene waiting xs state)) is (no_moves remaining contents g base window (scene waiting ts state)),
     ap (λ (xs : List (Track I O)). map name_of xs ++ waiting) (sym is),
   )
 
@@ -144,9 +145,9 @@ module _ {I O J : Type 0} (remaining : I → Option (List ℕ)) (contents : O �
 
   pub advances_to : (waiting : List RecordName) (track later : Track I O) (others ts us : List (Track I O)) (opened : List (Opening I O)) (old new : State J)
       → Advances remaining contents g base track opened old new (Ok later) → IsWith track others ts → IsWith later others us
-      → Moves remaining contents g base opened [] (scene waiting ts old) (scene waiting us new) × (name_of later ≡ name_of track)
+      → Moves remaining contents g base window opened [] (scene waiting ts old) (scene waiting us new) × (name_of later ≡ name_of track)
   advances_to waiting (UnderWay a f) later others ts us opened old new (inl c) before after = (
-    one_move remaining contents g base opened [] (scene waiting ts old) (scene waiting us new) (inr (inl (record {
+    one_move remaining contents g base window opened [] (scene waiting ts old) (scene waiting us new) (inr (inl (record {
       account = a;
       flight = f;
       fault = c.fault;
@@ -167,7 +168,7 @@ module _ {I O J : Type 0} (remaining : I → Option (List ℕ)) (contents : O �
       ok_is_no_err is = cc
   advances_to waiting (IsDone a standing) later others ts us opened old new (none, same, is) before after =
       let later_is : later ≡ IsDone a standing = cc in (
-        one_move remaining contents g base opened [] (scene waiting ts old) (scene waiting us new) (inr (inr (inr (record {
+        one_move remaining contents g base window opened [] (scene waiting ts old) (scene waiting us new) (inr (inr (inr (record {
           track = IsDone a standing;
           others = others;
           before = before;
@@ -217,64 +218,64 @@ turned_none {I} {O} all ts count t is less = go t.rest (sym t.split ∙ is) t.le
     go [] none left = absurd (omega (arith, left, less))
     go (r ∷ rest) none left = absurd (cc)
 
-module _ {I O J : Type 0} (remaining : I → Option (List ℕ)) (contents : O → Option (List ℕ)) (g : Ghosts J) (base : List ℕ) where
+module _ {I O J : Type 0} (remaining : I → Option (List ℕ)) (contents : O → Option (List ℕ)) (g : Ghosts J) (base : List ℕ) (window : ℕ) where
   pub moves_on : (first then : List (Opening I O)) (told : List Done) (old between new : Scene I O J)
-      → Moves remaining contents g base first told old between → Moves remaining contents g base then [] between new → Moves remaining contents g base (first ++ then) told old new
+      → Moves remaining contents g base window first told old between → Moves remaining contents g base window then [] between new → Moves remaining contents g base window (first ++ then) told old new
   moves_on first then told old between new a b =
-      subst (λ (d : List Done). Moves remaining contents g base (first ++ then) d old new) (append-nil told) (moves_more remaining contents g base first then told [] old between new a b)
+      subst (λ (d : List Done). Moves remaining contents g base window (first ++ then) d old new) (append-nil told) (moves_more remaining contents g base window first then told [] old between new a b)
 
   pub stops_on : (first then : List (Opening I O)) (told : List Done) (old between : Scene I O J) (rest : List (Track I O)) (new : State J) (fault : RunFault)
-      → Moves remaining contents g base first told old between → Stops remaining contents g base then [] between rest new fault → Stops remaining contents g base (first ++ then) told old rest new fault
+      → Moves remaining contents g base window first told old between → Stops remaining contents g base window then [] between rest new fault → Stops remaining contents g base window (first ++ then) told old rest new fault
   stops_on first then told old between rest new fault a b =
-      subst (λ (d : List Done). Stops remaining contents g base (first ++ then) d old rest new fault) (append-nil told) (stops_more remaining contents g base first then told [] old between rest new fault a b)
+      subst (λ (d : List Done). Stops remaining contents g base window (first ++ then) d old rest new fault) (append-nil told) (stops_more remaining contents g base window first then told [] old between rest new fault a b)
 
   pub others_stop : (first then : List (Opening I O)) (old : Scene I O J) (waiting : List RecordName) (ts others : List (Track I O)) (state new : State J) (track : Track I O) (fault : RunFault)
-      → Moves remaining contents g base first [] old (scene waiting ts state) → ts ≡ track ∷ others → Advances remaining contents g base track then state new (Err fault)
-      → Goes remaining contents g base (first ++ then) old (scene waiting others new) (Err fault)
+      → Moves remaining contents g base window first [] old (scene waiting ts state) → ts ≡ track ∷ others → Advances remaining contents g base track then state new (Err fault)
+      → Goes remaining contents g base window (first ++ then) old (scene waiting others new) (Err fault)
   others_stop first then old waiting ts others state new track fault moves is advances =
       stops_on first then [] old (scene waiting ts state) others new fault moves
-      (stops_here remaining contents g base then (scene waiting ts state) others new fault (inr (inl (track, ([], others, is, refl), advances))))
+      (stops_here remaining contents g base window then (scene waiting ts state) others new fault (inr (inl (track, ([], others, is, refl), advances))))
 
   pub others_next : (first then : List (Opening I O)) (old : Scene I O J) (waiting : List RecordName) (ts others us : List (Track I O)) (state new : State J) (track later : Track I O)
-      → Moves remaining contents g base first [] old (scene waiting ts state) → ts ≡ track ∷ others → us ≡ others ++ later ∷ [] → Advances remaining contents g base track then state new (Ok later)
-      → Moves remaining contents g base (first ++ then) [] old (scene waiting us new) × (name_of later ≡ name_of track)
+      → Moves remaining contents g base window first [] old (scene waiting ts state) → ts ≡ track ∷ others → us ≡ others ++ later ∷ [] → Advances remaining contents g base track then state new (Ok later)
+      → Moves remaining contents g base window (first ++ then) [] old (scene waiting us new) × (name_of later ≡ name_of track)
   others_next first then old waiting ts others us state new track later moves is end advances =
-      let to = advances_to remaining contents g base waiting track later others ts us then state new advances ([], others, is, refl) (others, [], end, sym (append-nil others)) in
+      let to = advances_to remaining contents g base window waiting track later others ts us then state new advances ([], others, is, refl) (others, [], end, sym (append-nil others)) in
       (moves_on first then [] old (scene waiting ts state) (scene waiting us new) moves to.0, to.1)
 
   -- ---- the first record, until it is done
 
   pub record IsFinishing (opened : List (Opening I O)) (begun : Track I O) (old : Scene I O J) (first : Track I O) (here : Scene I O J) : Type 0 where
-    pub moves : Moves remaining contents g base opened [] (with_first begun old) (with_first first here)
+    pub moves : Moves remaining contents g base window opened [] (with_first begun old) (with_first first here)
     pub names : names_in here ≡ names_in old
     pub name : name_of first ≡ name_of begun
 
   pub finishing_none : (first : Track I O) (here : Scene I O J) → IsFinishing [] first here first here
-  finishing_none first here = record { moves = no_moves remaining contents g base (with_first first here); names = refl; name = refl }
+  finishing_none first here = record { moves = no_moves remaining contents g base window (with_first first here); names = refl; name = refl }
 
-  pub finishing_beside : (done then : List (Opening I O)) (begun : Track I O) (old : Scene I O J) (first : Track I O) (here there : Scene I O J)
-      → IsFinishing done begun old first here → Goes remaining contents g base then here there (Ok tt) → IsFinishing (done ++ then) begun old first there
-  finishing_beside done then begun old first here there f goes = record {
-    moves = moves_on done then [] (with_first begun old) (with_first first here) (with_first first there) f.moves (moves_beside remaining contents g base first then [] here there goes.0);
+  pub finishing_beside : (room : ℕ) (less : room < window) (done then : List (Opening I O)) (begun : Track I O) (old : Scene I O J) (first : Track I O) (here there : Scene I O J)
+      → IsFinishing done begun old first here → Goes remaining contents g base room then here there (Ok tt) → IsFinishing (done ++ then) begun old first there
+  finishing_beside room less done then begun old first here there f goes = record {
+    moves = moves_on done then [] (with_first begun old) (with_first first here) (with_first first there) f.moves (moves_beside remaining contents g base room window less first then [] here there goes.0);
     names = goes.1 ∙ f.names;
     name = f.name;
   }
 
-  pub finishing_left : (done then : List (Opening I O)) (begun : Track I O) (old : Scene I O J) (first : Track I O) (here there : Scene I O J) (new : State J) (closed : Result (Unit {0}) RunFault) (fault : RunFault)
-      → IsFinishing done begun old first here → Goes remaining contents g base then here there (Err fault) → Closes remaining g first there.state new closed
-      → Leaves remaining contents g base (done ++ then) [] (with_first begun old) (scene there.waiting there.tracks new) fault
-  finishing_left done then begun old first here there new closed fault f goes closes = (
+  pub finishing_left : (room : ℕ) (less : room < window) (done then : List (Opening I O)) (begun : Track I O) (old : Scene I O J) (first : Track I O) (here there : Scene I O J) (new : State J) (closed : Result (Unit {0}) RunFault) (fault : RunFault)
+      → IsFinishing done begun old first here → Goes remaining contents g base room then here there (Err fault) → Closes remaining g first there.state new closed
+      → Leaves remaining contents g base window (done ++ then) [] (with_first begun old) (scene there.waiting there.tracks new) fault
+  finishing_left room less done then begun old first here there new closed fault f goes closes = (
     first ∷ [],
     there.state,
     stops_on done then [] (with_first begun old) (with_first first here) (first ∷ there.tracks) there.state fault f.moves
-        (stops_beside remaining contents g base first then [] here there.tracks there.state fault goes),
+        (stops_beside remaining contents g base room window less first then [] here there.tracks there.state fault goes),
     (closed, new, closes, refl),
   )
 
   pub finishing_next : (done then : List (Opening I O)) (begun : Track I O) (old : Scene I O J) (first later : Track I O) (here : Scene I O J) (new : State J)
       → IsFinishing done begun old first here → Advances remaining contents g base first then here.state new (Ok later) → IsFinishing (done ++ then) begun old later (scene here.waiting here.tracks new)
   finishing_next done then begun old first later here new f advances =
-      let to = advances_to remaining contents g base here.waiting first later here.tracks (first ∷ here.tracks) (later ∷ here.tracks) then here.state new advances (with_front first here.tracks) (with_front later here.tracks) in
+      let to = advances_to remaining contents g base window here.waiting first later here.tracks (first ∷ here.tracks) (later ∷ here.tracks) then here.state new advances (with_front first here.tracks) (with_front later here.tracks) in
       record {
         moves = moves_on done then [] (with_first begun old) (with_first first here) (with_first later (scene here.waiting here.tracks new)) f.moves to.0;
         names = f.names;
@@ -283,17 +284,17 @@ module _ {I O J : Type 0} (remaining : I → Option (List ℕ)) (contents : O �
 
   pub finishing_stopped : (done then : List (Opening I O)) (begun : Track I O) (old : Scene I O J) (first : Track I O) (here : Scene I O J) (new : State J) (fault : RunFault)
       → IsFinishing done begun old first here → Advances remaining contents g base first then here.state new (Err fault)
-      → Leaves remaining contents g base (done ++ then) [] (with_first begun old) (scene here.waiting here.tracks new) fault
+      → Leaves remaining contents g base window (done ++ then) [] (with_first begun old) (scene here.waiting here.tracks new) fault
   finishing_stopped done then begun old first here new fault f advances = (
     [],
     new,
     stops_on done then [] (with_first begun old) (with_first first here) here.tracks new fault f.moves
-        (stops_here remaining contents g base then (with_first first here) here.tracks new fault (inr (inl (first, with_front first here.tracks, advances)))),
+        (stops_here remaining contents g base window then (with_first first here) here.tracks new fault (inr (inl (first, with_front first here.tracks, advances)))),
     refl,
   )
 
   finishing_end : (opened : List (Opening I O)) (begun : Track I O) (old : Scene I O J) (a : Account) (standing : Standing) (here : Scene I O J) (result : Done)
-      → IsFinishing opened begun old (IsDone a standing) here → result ≡ done_of a standing → IsFinished remaining contents g base opened begun old here result
+      → IsFinishing opened begun old (IsDone a standing) here → result ≡ done_of a standing → IsFinished remaining contents g base window opened begun old here result
   finishing_end opened begun old a standing here result f is = record {
     account = a;
     standing = standing;
@@ -304,50 +305,50 @@ module _ {I O J : Type 0} (remaining : I → Option (List ℕ)) (contents : O �
   }
 
   pub finishing_done : (opened : List (Opening I O)) (begun : Track I O) (old : Scene I O J) (track : Track I O) (a : Account) (standing : Standing) (here : Scene I O J) (result : Done)
-      → IsFinishing opened begun old track here → track ≡ IsDone a standing → result ≡ done_of a standing → IsFinished remaining contents g base opened begun old here result
+      → IsFinishing opened begun old track here → track ≡ IsDone a standing → result ≡ done_of a standing → IsFinished remaining contents g base window opened begun old here result
   finishing_done opened begun old track a standing here result f end is =
       finishing_end opened begun old a standing here result (subst (λ (t : Track I O). IsFinishing opened begun old t here) end f) is
 
   -- the first record beside others that went on, or didn't
-  pub beside_kept : (done then : List (Opening I O)) (begun : Track I O) (old : Scene I O J) (first later : Track I O) (here there : Scene I O J) (new : State J) (beside : Result (Unit {0}) RunFault)
-      → IsFinishing done begun old first here → Goes remaining contents g base then here there beside → Keeps remaining g first beside there.state new (Ok later)
+  pub beside_kept : (room : ℕ) (less : room < window) (done then : List (Opening I O)) (begun : Track I O) (old : Scene I O J) (first later : Track I O) (here there : Scene I O J) (new : State J) (beside : Result (Unit {0}) RunFault)
+      → IsFinishing done begun old first here → Goes remaining contents g base room then here there beside → Keeps remaining g first beside there.state new (Ok later)
       → IsFinishing (done ++ then) begun old later (scene there.waiting there.tracks new)
-  beside_kept done then begun old first later here there new (Ok ok) f goes (same, is) =
+  beside_kept room less done then begun old first later here there new (Ok ok) f goes (same, is) =
       let later_is : later ≡ first = cc in
       subst (λ (t : Track I O). IsFinishing (done ++ then) begun old t (scene there.waiting there.tracks new)) (sym later_is)
-      (subst (λ (s : State J). IsFinishing (done ++ then) begun old first (scene there.waiting there.tracks s)) (sym same) (finishing_beside done then begun old first here there f goes))
-  beside_kept done then begun old first later here there new (Err fault) f goes (closed, closes, is) = absurd (cc)
+      (subst (λ (s : State J). IsFinishing (done ++ then) begun old first (scene there.waiting there.tracks s)) (sym same) (finishing_beside room less done then begun old first here there f goes))
+  beside_kept room less done then begun old first later here there new (Err fault) f goes (closed, closes, is) = absurd (cc)
 
-  pub beside_lost : (done then : List (Opening I O)) (begun : Track I O) (old : Scene I O J) (first : Track I O) (here there : Scene I O J) (new : State J) (beside : Result (Unit {0}) RunFault) (fault : RunFault)
-      → IsFinishing done begun old first here → Goes remaining contents g base then here there beside → Keeps remaining g first beside there.state new (Err fault)
-      → Leaves remaining contents g base (done ++ then) [] (with_first begun old) (scene there.waiting there.tracks new) fault
-  beside_lost done then begun old first here there new (Ok ok) fault f goes (same, is) = absurd (cc)
-  beside_lost done then begun old first here there new (Err end) fault f goes (closed, closes, is) =
+  pub beside_lost : (room : ℕ) (less : room < window) (done then : List (Opening I O)) (begun : Track I O) (old : Scene I O J) (first : Track I O) (here there : Scene I O J) (new : State J) (beside : Result (Unit {0}) RunFault) (fault : RunFault)
+      → IsFinishing done begun old first here → Goes remaining contents g base room then here there beside → Keeps remaining g first beside there.state new (Err fault)
+      → Leaves remaining contents g base window (done ++ then) [] (with_first begun old) (scene there.waiting there.tracks new) fault
+  beside_lost room less done then begun old first here there new (Ok ok) fault f goes (same, is) = absurd (cc)
+  beside_lost room less done then begun old first here there new (Err end) fault f goes (closed, closes, is) =
       let fault_is : fault ≡ end = cc in
-      subst (λ (e : RunFault). Leaves remaining contents g base (done ++ then) [] (with_first begun old) (scene there.waiting there.tracks new) e) (sym fault_is)
-      (finishing_left done then begun old first here there new closed end f goes closes)
+      subst (λ (e : RunFault). Leaves remaining contents g base window (done ++ then) [] (with_first begun old) (scene there.waiting there.tracks new) e) (sym fault_is)
+      (finishing_left room less done then begun old first here there new closed end f goes closes)
 
   -- ---- one record after another
 
   pub record IsThroughSo (opened : List (Opening I O)) (old here : Scene I O J) (before now : Option (List Done)) (tally : Tally) : Type 0 where
     pub done : List Done
     pub names : map (λ d. d.0) done ++ names_in here ≡ names_in old
-    pub moves : Moves remaining contents g base opened done old here
+    pub moves : Moves remaining contents g base window opened done old here
     pub tells : Tells before now done
     pub tally_is : tally ≡ tally_of done
 
   pub through_none : (old : Scene I O J) (before : Option (List Done)) → IsThroughSo [] old old before before (record { exchanges = 0; is_settled = true })
-  through_none old before = record { done = []; names = refl; moves = no_moves remaining contents g base old; tells = adds_none before; tally_is = refl }
+  through_none old before = record { done = []; names = refl; moves = no_moves remaining contents g base window old; tells = adds_none before; tally_is = refl }
 
   pub through_stopped : (o1 o2 : List (Opening I O)) (old here there : Scene I O J) (before now : Option (List Done)) (tally : Tally) (fault : RunFault)
-      → IsThroughSo o1 old here before now tally → TakesFirst remaining contents g base o2 here there (Err fault)
-      → (told : List Done) × Leaves remaining contents g base (o1 ++ o2) told old there fault
+      → IsThroughSo o1 old here before now tally → TakesFirst remaining contents g base window o2 here there (Err fault)
+      → (told : List Done) × Leaves remaining contents g base window (o1 ++ o2) told old there fault
   through_stopped o1 o2 old here there before now tally fault so stops =
       (so.done, ([], there.state, stops_on o1 o2 so.done old here there.tracks there.state fault so.moves stops, refl))
 
   pub through_left : (o1 o2 o3 : List (Opening I O)) (old here there after : Scene I O J) (first : Track I O) (before now : Option (List Done)) (tally : Tally) (fault : RunFault)
-      → IsThroughSo o1 old here before now tally → TakesFirst remaining contents g base o2 here there (Ok (Some first)) → Leaves remaining contents g base o3 [] (with_first first there) after fault
-      → (told : List Done) × Leaves remaining contents g base ((o1 ++ o2) ++ o3) told old after fault
+      → IsThroughSo o1 old here before now tally → TakesFirst remaining contents g base window o2 here there (Ok (Some first)) → Leaves remaining contents g base window o3 [] (with_first first there) after fault
+      → (told : List Done) × Leaves remaining contents g base window ((o1 ++ o2) ++ o3) told old after fault
   through_left o1 o2 o3 old here there after first before now tally fault so takes (front, between, stops, looked) = (
     so.done,
     (
@@ -360,15 +361,15 @@ module _ {I O J : Type 0} (remaining : I → Option (List ℕ)) (contents : O �
   )
 
   moves_to_done : (o1 o2 o3 : List (Opening I O)) (old here there after : Scene I O J) (first : Track I O) (before now : Option (List Done)) (tally : Tally) (d : Done)
-      → (so : IsThroughSo o1 old here before now tally) → TakesFirst remaining contents g base o2 here there (Ok (Some first)) → (f : IsFinished remaining contents g base o3 first there after d)
-      → Moves remaining contents g base ((o1 ++ o2) ++ o3) so.done old (with_first (IsDone f.account f.standing) after)
+      → (so : IsThroughSo o1 old here before now tally) → TakesFirst remaining contents g base window o2 here there (Ok (Some first)) → (f : IsFinished remaining contents g base window o3 first there after d)
+      → Moves remaining contents g base window ((o1 ++ o2) ++ o3) so.done old (with_first (IsDone f.account f.standing) after)
   moves_to_done o1 o2 o3 old here there after first before now tally d so takes f =
       moves_on (o1 ++ o2) o3 so.done old (with_first first there) (with_first (IsDone f.account f.standing) after)
       (moves_on o1 o2 so.done old here (with_first first there) so.moves takes.0) f.moves
 
   pub through_untold : (o1 o2 o3 : List (Opening I O)) (old here there after : Scene I O J) (first : Track I O) (before now : Option (List Done)) (tally : Tally) (d : Done) (fault : RunFault)
-      → IsThroughSo o1 old here before now tally → TakesFirst remaining contents g base o2 here there (Ok (Some first)) → IsFinished remaining contents g base o3 first there after d → IsUntold fault
-      → (told : List Done) × Leaves remaining contents g base (((o1 ++ o2) ++ o3) ++ []) told old after fault
+      → IsThroughSo o1 old here before now tally → TakesFirst remaining contents g base window o2 here there (Ok (Some first)) → IsFinished remaining contents g base window o3 first there after d → IsUntold fault
+      → (told : List Done) × Leaves remaining contents g base window (((o1 ++ o2) ++ o3) ++ []) told old after fault
   through_untold o1 o2 o3 old here there after first before now tally d fault so takes f untold = (
     so.done,
     (
@@ -376,14 +377,14 @@ module _ {I O J : Type 0} (remaining : I → Option (List ℕ)) (contents : O �
       after.state,
       stops_on ((o1 ++ o2) ++ o3) [] so.done old (with_first (IsDone f.account f.standing) after) after.tracks after.state fault
           (moves_to_done o1 o2 o3 old here there after first before now tally d so takes f)
-          (stops_here remaining contents g base [] (with_first (IsDone f.account f.standing) after) after.tracks after.state fault
+          (stops_here remaining contents g base window [] (with_first (IsDone f.account f.standing) after) after.tracks after.state fault
           (inr (inr (f.account, f.standing, with_front (IsDone f.account f.standing) after.tracks, refl, refl, untold)))),
       refl,
     ),
   )
 
   pub through_next : (o1 o2 o3 : List (Opening I O)) (old here there after : Scene I O J) (first : Track I O) (before now then : Option (List Done)) (tally next : Tally) (d : Done)
-      → IsThroughSo o1 old here before now tally → TakesFirst remaining contents g base o2 here there (Ok (Some first)) → IsFinished remaining contents g base o3 first there after d
+      → IsThroughSo o1 old here before now tally → TakesFirst remaining contents g base window o2 here there (Ok (Some first)) → IsFinished remaining contents g base window o3 first there after d
       → Tells now then (d ∷ []) → next ≡ tally_with tally d.1
       → IsThroughSo (((o1 ++ o2) ++ o3) ++ []) old after before then next
   through_next o1 o2 o3 old here there after first before now then tally next d so takes f told counted = record {
@@ -392,9 +393,9 @@ module _ {I O J : Type 0} (remaining : I → Option (List ℕ)) (contents : O �
         ∙ ap (λ (n : RecordName). map (λ (e : Done). e.0) so.done ++ n ∷ names_in after) (ap (λ (e : Done). e.0) f.done_is ∙ f.name_is)
         ∙ ap (λ xs. map (λ (e : Done). e.0) so.done ++ name_of first ∷ xs) f.names
         ∙ ap (λ xs. map (λ (e : Done). e.0) so.done ++ xs) takes.1 ∙ so.names;
-    moves = moves_more remaining contents g base ((o1 ++ o2) ++ o3) [] so.done (d ∷ []) old (with_first (IsDone f.account f.standing) after) after
+    moves = moves_more remaining contents g base window ((o1 ++ o2) ++ o3) [] so.done (d ∷ []) old (with_first (IsDone f.account f.standing) after) after
         (moves_to_done o1 o2 o3 old here there after first before now tally d so takes f)
-        (one_move remaining contents g base [] (d ∷ []) (with_first (IsDone f.account f.standing) after) after (inr (inr (inl (record {
+        (one_move remaining contents g base window [] (d ∷ []) (with_first (IsDone f.account f.standing) after) after (inr (inr (inl (record {
           account = f.account;
           standing = f.standing;
           tracks = with_front (IsDone f.account f.standing) after.tracks;
@@ -408,27 +409,27 @@ module _ {I O J : Type 0} (remaining : I → Option (List ℕ)) (contents : O �
   }
 
   through_end : (o1 o2 : List (Opening I O)) (old here there : Scene I O J) (before now : Option (List Done)) (tally : Tally)
-      → IsThroughSo o1 old here before now tally → TakesFirst remaining contents g base o2 here there (Ok None) → IsThrough remaining contents g base (o1 ++ o2) old there before now tally
+      → IsThroughSo o1 old here before now tally → TakesFirst remaining contents g base window o2 here there (Ok None) → IsThrough remaining contents g base window (o1 ++ o2) old there before now tally
   through_end o1 o2 old here there before now tally so (none, same, names, tracks, waiting) = record {
     done = so.done;
     names_are = sym (append-nil (map (λ (e : Done). e.0) so.done)) ∙ ap (λ xs. map (λ (e : Done). e.0) so.done ++ xs) (sym names) ∙ so.names;
-    moves = subst (λ (s : Scene I O J). Moves remaining contents g base (o1 ++ o2) so.done old s) (sym same)
-        (subst (λ (o : List (Opening I O)). Moves remaining contents g base o so.done old here) (sym (append-nil o1) ∙ ap (λ xs. o1 ++ xs) (sym none)) so.moves);
+    moves = subst (λ (s : Scene I O J). Moves remaining contents g base window (o1 ++ o2) so.done old s) (sym same)
+        (subst (λ (o : List (Opening I O)). Moves remaining contents g base window o so.done old here) (sym (append-nil o1) ∙ ap (λ xs. o1 ++ xs) (sym none)) so.moves);
     none = (tracks, waiting);
     tells = so.tells;
     tally_is = so.tally_is;
   }
 
   pub through_all : (o1 o2 : List (Opening I O)) (old here there : Scene I O J) (before now : Option (List Done)) (tally : Tally) (o : Option (Track I O))
-      → o ≡ None → IsThroughSo o1 old here before now tally → TakesFirst remaining contents g base o2 here there (Ok o) → IsThrough remaining contents g base (o1 ++ o2) old there before now tally
+      → o ≡ None → IsThroughSo o1 old here before now tally → TakesFirst remaining contents g base window o2 here there (Ok o) → IsThrough remaining contents g base window (o1 ++ o2) old there before now tally
   through_all o1 o2 old here there before now tally o none so takes =
-      through_end o1 o2 old here there before now tally so (subst (λ (x : Option (Track I O)). TakesFirst remaining contents g base o2 here there (Ok x)) none takes)
+      through_end o1 o2 old here there before now tally so (subst (λ (x : Option (Track I O)). TakesFirst remaining contents g base window o2 here there (Ok x)) none takes)
 
-  pub takes_this : (o2 : List (Opening I O)) (here there : Scene I O J) (o : Option (Track I O)) (first : Track I O) → o ≡ Some first → TakesFirst remaining contents g base o2 here there (Ok o) → TakesFirst remaining contents g base o2 here there (Ok (Some first))
-  takes_this o2 here there o first is takes = subst (λ (x : Option (Track I O)). TakesFirst remaining contents g base o2 here there (Ok x)) is takes
+  pub takes_this : (o2 : List (Opening I O)) (here there : Scene I O J) (o : Option (Track I O)) (first : Track I O) → o ≡ Some first → TakesFirst remaining contents g base window o2 here there (Ok o) → TakesFirst remaining contents g base window o2 here there (Ok (Some first))
+  takes_this o2 here there o first is takes = subst (λ (x : Option (Track I O)). TakesFirst remaining contents g base window o2 here there (Ok x)) is takes
 
   pub fewer_names : (o2 o3 : List (Opening I O)) (here there after : Scene I O J) (first : Track I O) (d : Done)
-      → TakesFirst remaining contents g base o2 here there (Ok (Some first)) → IsFinished remaining contents g base o3 first there after d → length (names_in after) < length (names_in here)
+      → TakesFirst remaining contents g base window o2 here there (Ok (Some first)) → IsFinished remaining contents g base window o3 first there after d → length (names_in after) < length (names_in here)
   fewer_names o2 o3 here there after first d takes f =
       let one : length (name_of first ∷ names_in there) ≡ length (names_in here) = ap length takes.1 in
       let same : length (names_in after) ≡ length (names_in there) = ap length f.names in
@@ -437,44 +438,44 @@ module _ {I O J : Type 0} (remaining : I → Option (List ℕ)) (contents : O �
   -- ---- a whole run
 
   pub abreast_all : (names : List RecordName) (opened : List (Opening I O)) (old mid new : State J) (there : Window I O) (before after : Option (List Done)) (tally : Tally) (ts : List (Track I O))
-      → ts ≡ [] → IsThrough remaining contents g base opened (scene names ts old) (scene_of there mid) before after tally → LooksThrough remaining g there.tracks.items mid new
-      → AllMoved remaining contents g base names opened old new before after tally
+      → ts ≡ [] → IsThrough remaining contents g base window opened (scene names ts old) (scene_of there mid) before after tally → LooksThrough remaining g there.tracks.items mid new
+      → AllMoved remaining contents g base window names opened old new before after tally
   abreast_all names opened old mid new there before after tally ts none t looked =
       let same : new ≡ mid = subst (λ (xs : List (Track I O)). LooksThrough remaining g xs mid new) t.none.0 looked in
       record {
         done = t.done;
         names_are = t.names_are ∙ ap (λ (xs : List (Track I O)). map name_of xs ++ names) none;
-        moves = subst (λ (s : State J). Moves remaining contents g base opened t.done (at_start names old) (at_start [] s)) (sym same)
-            (subst (λ (xs : List (Track I O)). Moves remaining contents g base opened t.done (scene names xs old) (at_start [] mid)) none
-            (subst (λ (xs : List (Track I O)). Moves remaining contents g base opened t.done (scene names ts old) (scene [] xs mid)) t.none.0
-            (subst (λ (w : List RecordName). Moves remaining contents g base opened t.done (scene names ts old) (scene w there.tracks.items mid)) t.none.1 t.moves)));
+        moves = subst (λ (s : State J). Moves remaining contents g base window opened t.done (at_start names old) (at_start [] s)) (sym same)
+            (subst (λ (xs : List (Track I O)). Moves remaining contents g base window opened t.done (scene names xs old) (at_start [] mid)) none
+            (subst (λ (xs : List (Track I O)). Moves remaining contents g base window opened t.done (scene names ts old) (scene [] xs mid)) t.none.0
+            (subst (λ (w : List RecordName). Moves remaining contents g base window opened t.done (scene names ts old) (scene w there.tracks.items mid)) t.none.1 t.moves)));
         tells = t.tells;
         tally_is = t.tally_is;
       }
 
   pub abreast_part : (names : List RecordName) (opened : List (Opening I O)) (old mid new : State J) (there : Window I O) (fault : RunFault) (ts : List (Track I O))
-      → ts ≡ [] → (told : List Done) × Leaves remaining contents g base opened told (scene names ts old) (scene_of there mid) fault → LooksThrough remaining g there.tracks.items mid new
-      → PartMoved remaining contents g base names opened old new fault
+      → ts ≡ [] → (told : List Done) × Leaves remaining contents g base window opened told (scene names ts old) (scene_of there mid) fault → LooksThrough remaining g there.tracks.items mid new
+      → PartMoved remaining contents g base window names opened old new fault
   abreast_part names opened old mid new there fault ts none (told, left) looked = record {
     done = told;
     rest = left.0 ++ there.tracks.items;
     between = left.1;
-    stops = subst (λ (xs : List (Track I O)). Stops remaining contents g base opened told (scene names xs old) (left.0 ++ there.tracks.items) left.1 fault) none left.2;
-    looked = looks_more remaining contents g base left.0 there.tracks.items left.1 mid new left.3 looked;
+    stops = subst (λ (xs : List (Track I O)). Stops remaining contents g base window opened told (scene names xs old) (left.0 ++ there.tracks.items) left.1 fault) none left.2;
+    looked = looks_more remaining g left.0 there.tracks.items left.1 mid new left.3 looked;
   }
 
   pub abreast : (names : List RecordName) (opened : List (Opening I O)) (old mid new : State J) (there : Window I O) (before after : Option (List Done)) (result : Result Tally RunFault) (ts : List (Track I O))
-      → ts ≡ [] → PushesThrough remaining contents g base opened (scene names ts old) (scene_of there mid) before after result → LooksThrough remaining g there.tracks.items mid new
-      → PushesAbreast remaining contents g base names opened old new before after result
+      → ts ≡ [] → PushesThrough remaining contents g base window opened (scene names ts old) (scene_of there mid) before after result → LooksThrough remaining g there.tracks.items mid new
+      → PushesAbreast remaining contents g base window names opened old new before after result
   abreast names opened old mid new there before after (Ok tally) ts none t looked = abreast_all names opened old mid new there before after tally ts none t looked
   abreast names opened old mid new there before after (Err fault) ts none t looked = abreast_part names opened old mid new there fault ts none t looked
 
-  pub abreast_none : (names : List RecordName) (old : State J) (before after : Option (List Done)) (fault : RunFault) → fault ≡ Memory → PushesAbreast remaining contents g base names [] old old before after (Err fault)
-  abreast_none names old before after fault is = record {
+  pub abreast_none : (names : List RecordName) (old : State J) (before after : Option (List Done)) (fault : RunFault) → 0 < window → fault ≡ Memory → PushesAbreast remaining contents g base window names [] old old before after (Err fault)
+  abreast_none names old before after fault room is = record {
     done = [];
     rest = [];
     between = old;
-    stops = stops_here remaining contents g base [] (at_start names old) [] old fault (inl (refl, refl, inr (refl, is)));
+    stops = stops_here remaining contents g base window [] (at_start names old) [] old fault (inl (refl, refl, record { room = room; unmade = inr (refl, is); waits = inl refl }));
     looked = refl;
   }
 

@@ -45,17 +45,17 @@ joined tally (Ok more) = Ok (both tally more)
 joined tally (Err fault) = Err fault
 
 module _ {I O J : Type 0} (remaining : I → Option (List ℕ))
-    (contents : O → Option (List ℕ)) (g : Ghosts J) (base : List ℕ) where
+    (contents : O → Option (List ℕ)) (g : Ghosts J) (base : List ℕ) (window : ℕ) where
   -- the groups begin when every user is done and reported; or a fault ended the run before
   abbrev pub PushesBoth : (users groups : List RecordName) → (opened : List (Opening I O)) → (old new : State J)
       → (before after : Option (List Done)) → Result Tally RunFault → Type 0
   PushesBoth users groups opened old new before after result =
       ((first : List (Opening I O)) × (last : List (Opening I O)) × (between : State J)
       × (then : Option (List Done)) × (tally : Tally) × (more : Result Tally RunFault) × (opened ≡ first ++ last)
-      × AllMoved remaining contents g base users first old between before then tally
-      × PushesAbreast remaining contents g base groups last between new then after more
+      × AllMoved remaining contents g base window users first old between before then tally
+      × PushesAbreast remaining contents g base window groups last between new then after more
       × (result ≡ joined tally more))
-      ⊎ ((fault : RunFault) × PartMoved remaining contents g base users opened old new fault × (result ≡ Err fault))
+      ⊎ ((fault : RunFault) × PartMoved remaining contents g base window users opened old new fault × (result ≡ Err fault))
 
   -- The records of the connector, users and then groups, in this order; or memory ran out before the first of them
   abbrev pub PushesAllAbreast : (leavers_first : Bool) → (opened : List (Opening I O)) → (old new : State J)

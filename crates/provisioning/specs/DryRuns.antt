@@ -1,23 +1,19 @@
--- Entries that were read, of a journal that keeps no write.
-use Rattle.std.specs.Prelude.{◌≡◌, List, map}
-use Rattle.std.specs.FinMap.{from_sorted}
-use Rattle.journal_core.specs.Entries.{EntryMap, IsListOf, named}
+-- A run over a copy of a journal's entries.
+use Rattle.std.specs.Prelude.{List}
+use Rattle.scim_key.specs.declared.stores.StoreFault.{StoreFault}
+use Rattle.scim_key.specs.declared.stores.StoreFault.TheVariants as store
+use Rattle.journal_core.specs.Entries.{EntryMap, IsListOf}
 use Rattle.journal_core.specs.declared.entries.Entry.{Entry}
-use Rattle.provisioning.specs.declared.dry_runs.DryJournal.{DryJournal}
+use Rattle.connector_core.specs.Maps.{BookMap}
+use Rattle.connector_core.specs.State.{IsOpened}
+use Rattle.provisioning.specs.declared.faults.RunFault.{RunFault}
+use Rattle.provisioning.specs.declared.faults.RunFault.TheVariants as run
 
--- the entries of a list that is in order of the names, each under the name of its record
-abbrev pub entries_in : List Entry → EntryMap
-entries_in list = from_sorted (map named list)
+-- the book is that of a connector over the journal that has these entries
+abbrev pub IsOver : List Entry → BookMap → Type 0
+IsOver list book = (entries : EntryMap) → IsListOf entries list → IsOpened entries book
 
-abbrev pub entries_of : DryJournal → EntryMap
-entries_of it = entries_in it.entries.items
-
--- the list has the entries of a journal in order, and nothing was written
-pub record IsDry (it : DryJournal) : Type 0 where
-  pub listed : IsListOf (entries_of it) it.entries.items
-  pub none : it.writes ≡ 0
-
--- it has these entries, and nothing was written
-pub record Shows (entries : EntryMap) (it : DryJournal) : Type 0 where
-  pub dry : IsDry it
-  pub same : entries_of it ≡ entries
+-- what ends a run if its journal can't be read
+abbrev pub fault_of : StoreFault → RunFault
+fault_of store.Store = run.Journal
+fault_of store.Memory = run.Memory

@@ -78,15 +78,6 @@ pub record IsAsked {I O : Type 0} (remaining : I → Option (List ℕ)) (content
   pub read : Reads request (fresh_reading (remaining reader)) left came
   pub known : ExchangesKnown request (remaining reader) left.remaining came
 
--- The streams that are given back are those that the exchange used: what is left in the reader, what the writer holds,
--- and how many calls of each were made and failed
-pub record GivesBack {I O : Type 0} (remaining : I → Option (List ℕ)) (contents : O → Option (List ℕ)) (base : List ℕ)
-    (request : Request) (reader : I) (writer : O) (came : Result Answer ExchangeFault) (input : Reading)
-    (output : Writing) : Type 0 where
-  pub asked : IsAsked remaining contents base request reader writer came
-  pub input_is : input ≡ asked.left
-  pub output_is : output ≡ asked.written
-
 pub record Exchange (I O : Type 0) : Type 0 where
   pub request : Request
   pub reader : I
@@ -113,31 +104,6 @@ pub record IsExchange {I O J : Type 0} (remaining : I → Option (List ℕ))
 abbrev pub IsUnmade : {I O : Type 0} → (opened : List (Opening I O)) → RunFault → Type 0
 IsUnmade opened fault = ((error : Error) × (opened ≡ Err error ∷ []) × (fault ≡ open_fault error))
     ⊎ ((opened ≡ []) × (fault ≡ Memory))
-
--- ---- the steps of an exchange
-
--- a request was sent on this stream, and the connector learns from the answer
-pub record IsSent {I O J : Type 0} (remaining : I → Option (List ℕ)) (contents : O → Option (List ℕ))
-    (g : Ghosts J) (base : List ℕ) (request : Request) (stream : I × O) (old new : State J)
-    (result : Result (Option RecordFault) RunFault) : Type 0 where
-  pub came : Came
-  pub sent : IsAsked remaining contents base request stream.0 stream.1 (answer_in came)
-  pub becomes : Becomes g request came old new
-  pub result_is : result ≡ outcome came
-
--- the request was sent on the stream; or there is none, nothing changed, and the opening's error is the fault
-abbrev pub ComesOf : {I O J : Type 0} → (I → Option (List ℕ)) → (O → Option (List ℕ)) → Ghosts J
-    → List ℕ → Request → Opening I O → (old new : State J) → Result (Option RecordFault) RunFault → Type 0
-ComesOf remaining contents g base request (Ok stream) old new result =
-    IsSent remaining contents g base request stream old new result
-ComesOf remaining contents g base request (Err error) old new result = (new ≡ old) × (result ≡ Err (open_fault error))
-
--- one stream was opened, and the result comes of it
-abbrev pub MakesExchange : {I O J : Type 0} → (I → Option (List ℕ)) → (O → Option (List ℕ)) → Ghosts J
-    → List ℕ → Request → (opened : List (Opening I O)) → (old new : State J)
-    → Result (Option RecordFault) RunFault → Type 0
-MakesExchange {I} {O} remaining contents g base request opened old new result = (opening : Opening I O)
-    × (opened ≡ opening ∷ []) × ComesOf remaining contents g base request opening old new result
 
 -- this is what came, and the connector learns from it
 pub record IsTaken {J : Type 0} (g : Ghosts J) (request : Request)

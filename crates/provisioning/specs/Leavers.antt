@@ -6,17 +6,13 @@ use Rattle.scim_key.specs.Revisions.{no_revision, same_revision}
 use Rattle.scim_key.specs.declared.records.RecordName.{RecordName}
 use Rattle.source_csv.specs.declared.rows.Row.{Row}
 use Rattle.source_csv.specs.declared.rows.Row.TheVariants.{User, Group}
+use Rattle.journal_core.specs.Memory.{MemoryRecord}
 use Rattle.journal_core.specs.declared.journals.Journal.{Ghosts}
-use Rattle.scim_key.specs.declared.stores.StoreFault.{StoreFault}
-use Rattle.scim_key.specs.declared.stores.StoreFault.TheVariants as store
 use Rattle.connector_core.specs.Book.{Book, confirmed_of, wanted_of, wanted_row}
 use Rattle.connector_core.specs.Maps.{BookMap, book_of}
 use Rattle.connector_core.specs.State.{IsOpened, State}
-use Rattle.provisioning.specs.DryRuns.{IsDry, Shows, entries_of}
 use Rattle.provisioning.specs.Offering.{OffersAll}
-use Rattle.provisioning.specs.declared.dry_runs.DryJournal.{DryJournal}
 use Rattle.provisioning.specs.declared.faults.RunFault.{RunFault}
-use Rattle.provisioning.specs.declared.faults.RunFault.TheVariants as run
 use Rattle.provisioning.specs.declared.sources.Sources.{Sources}
 
 -- ---- users
@@ -47,11 +43,6 @@ leavers before after = count_by (is_switched_off (book_of after)) (names_in_use 
 
 -- ---- counting them
 
--- what ends a run if its journal can't be read
-abbrev pub fault_of : StoreFault → RunFault
-fault_of store.Store = run.Journal
-fault_of store.Memory = run.Memory
-
 -- no fault is forgotten
 abbrev pub NoFewer : (old new : ℕ) → RunFault → Type 0
 NoFewer old new fault = old ≤ new
@@ -62,16 +53,13 @@ pub record CountsIn {J : Type 0} (g : Ghosts J) (sources : Sources) (old new : S
   pub offered : OffersAll g sources old new None None (Ok taken)
   pub count_is : count ≡ leavers old.book new.book
 
--- the same for a connector over these entries
-pub record CountsDry (g : Ghosts DryJournal) (sources : Sources) (dry : DryJournal) (count : ℕ) : Type 0 where
-  pub start : State DryJournal
-  pub end : State DryJournal
-  pub opened : IsDry start.journal → IsOpened (entries_of dry) start.book
-  pub counts : CountsIn g sources start end count
+-- the same for a connector whose book is first such a one
+pub record CountsOf (h : Ghosts MemoryRecord) (sources : Sources) (is_first : BookMap → Type 0) (count : ℕ) : Type 0 where
+  pub start : State MemoryRecord
+  pub end : State MemoryRecord
+  pub opened : is_first start.book
+  pub counts : CountsIn h sources start end count
 
 -- the same for a connector over the entries of a journal that was read
-pub record CountsOver {J : Type 0} (g : Ghosts J) (h : Ghosts DryJournal) (sources : Sources) (old new : J)
-    (count : ℕ) : Type 0 where
-  pub dry : DryJournal
-  pub shows : g.is_faithful new → Shows (g.entries old) dry
-  pub counts : CountsDry h sources dry count
+abbrev pub CountsOver : {J : Type 0} → Ghosts J → Ghosts MemoryRecord → Sources → (old new : J) → (count : ℕ) → Type 0
+CountsOver g h sources old new count = CountsOf h sources (λ book. g.is_faithful new → IsOpened (g.entries old) book) count

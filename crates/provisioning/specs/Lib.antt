@@ -10,7 +10,6 @@ pub mod Openings
 pub mod Records
 pub mod Runs
 pub mod Sources
-pub mod Turns
 pub mod Tracks
 pub mod Windows
 pub mod Abreast

@@ -1,5 +1,5 @@
 -- Every record, one after another or several at once.
-use Rattle.std.specs.Prelude.{◌≡◌, ◌⊎◌, ℕ, Bool, true, false, List, [], Option, Result, Err, nat_lt}
+use Rattle.std.specs.Prelude.{◌≡◌, ◌⊎◌, ◌≤◌, ℕ, Bool, List, [], Option, Result, Err}
 use Rattle.scim_key.specs.declared.records.RecordName.{RecordName}
 use Rattle.journal_core.specs.declared.journals.Journal.{Ghosts}
 use Rattle.connector_core.specs.State.{State}
@@ -7,6 +7,7 @@ use Rattle.provisioning.specs.Abreast.{PushesAllAbreast}
 use Rattle.provisioning.specs.Openings.{Opening}
 use Rattle.provisioning.specs.Orders.{IsPushOrder}
 use Rattle.provisioning.specs.Runs.{Done, PushesEach}
+use Rattle.provisioning.specs.Windows.{window_of}
 use Rattle.provisioning.specs.declared.faults.RunFault.{RunFault}
 use Rattle.provisioning.specs.declared.faults.RunFault.TheVariants.{Memory}
 use Rattle.provisioning.specs.declared.paces.Pace.{Pace}
@@ -23,16 +24,17 @@ module _ {I O J : Type 0} (remaining : I → Option (List ℕ)) (contents : O �
       × PushesEach remaining contents g base names opened old new before after result)
       ⊎ ((opened ≡ []) × (result ≡ Err Memory) × (new ≡ old))
 
-  -- one after another, or several at once
-  abbrev pub PushesBy : (several : Bool) → (leavers_first : Bool) → (opened : List (Opening I O)) → (old new : State J)
-      → (before after : Option (List Done)) → Result Tally RunFault → Type 0
-  PushesBy false leavers_first opened old new before after result =
-      PushesInTurn leavers_first opened old new before after result
-  PushesBy true leavers_first opened old new before after result =
-      PushesAllAbreast remaining contents g base leavers_first opened old new before after result
-
-  -- several at once, if there is more than one stream
+  -- so many of them at once as there are streams
   abbrev pub PushesAt : Pace → (opened : List (Opening I O)) → (old new : State J) → (before after : Option (List Done))
       → Result Tally RunFault → Type 0
   PushesAt pace opened old new before after result =
-      PushesBy (nat_lt 1 pace.streams) pace.leavers_first opened old new before after result
+      PushesAllAbreast remaining contents g base (window_of pace.streams) pace.leavers_first opened old new before after
+      result
+
+-- if there is only one stream, one after another
+abbrev pub OneStreamIsInTurn : {I O J : Type 0} → (I → Option (List ℕ)) → (O → Option (List ℕ)) → Ghosts J → Type 0
+OneStreamIsInTurn {I} {O} {J} remaining contents g =
+    (base : List ℕ) (pace : Pace) (opened : List (Opening I O)) (old new : State J)
+    (before after : Option (List Done)) (result : Result Tally RunFault) → pace.streams ≤ 1
+    → PushesAt remaining contents g base pace opened old new before after result
+    → PushesInTurn remaining contents g base pace.leavers_first opened old new before after result

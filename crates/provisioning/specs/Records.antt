@@ -93,10 +93,3 @@ pub record EndsRun {I O J : Type 0} (remaining : I → Option (List ℕ)) (conte
   pub opened_are : opened ≡ openings_of exchanges ++ last
   pub most : length exchanges < most_exchanges
   pub ends : Ends remaining contents g base name last between new fault
-
-abbrev pub PushesRecord : {I O J : Type 0} → (I → Option (List ℕ)) → (O → Option (List ℕ)) → Ghosts J
-    → List ℕ → RecordName → (opened : List (Opening I O)) → (old new : State J) → Result Pushed RunFault → Type 0
-PushesRecord remaining contents g base name opened old new (Ok pushed) =
-    IsPushed remaining contents g base name opened old new pushed
-PushesRecord remaining contents g base name opened old new (Err fault) =
-    EndsRun remaining contents g base name opened old new fault

@@ -11,6 +11,7 @@ use Rattle.scim_key.specs.declared.records.Kind.TheVariants as kinds
 use Rattle.source_csv.specs.Fields.{Record}
 use Rattle.source_csv.specs.Files.{AreRecordsOf, rows_of}
 use Rattle.source_csv.specs.Lines.{multiline_of}
+use Rattle.source_csv.specs.declared.layouts.Separator.TheVariants.{Comma}
 use Rattle.source_csv.specs.declared.faults.RowFault.{RowFault}
 use Rattle.source_csv.specs.declared.faults.SourceFault.{SourceFault}
 use Rattle.source_csv.specs.declared.faults.SourceFault.TheVariants.{Header}
@@ -68,8 +69,8 @@ multiline_if None records = []
 -- these bytes say this of the records of a type
 pub record Says (of : Kind) (bytes : List ℕ) (source : Source) : Type 0 where
   pub kind_is : source.kind ≡ of
-  pub rows : (records : List Record) → AreRecordsOf bytes records → read_as source ≡ rows_of of records
-  pub multiline : (records : List Record) → AreRecordsOf bytes records
+  pub rows : (records : List Record) → AreRecordsOf Comma bytes records → read_as source ≡ rows_of of records
+  pub multiline : (records : List Record) → AreRecordsOf Comma bytes records
       → source.multiline.items ≡ multiline_if source.rows records
 
 module _ {R : Type 0} (gives : R → (path : List ℕ) → Result (List ℕ) Error → Type 0) (place : R) where

@@ -88,11 +88,11 @@ abbrev pub Begins : {I O : Type 0} → (O → Option (List ℕ)) → List ℕ �
 Begins contents base a opened book (UnderWay later f) = SetsOut contents base a opened book later f
 Begins contents base a opened book (Done later standing) = (opened ≡ []) × (later ≡ a) × StandsAt book a standing
 
--- so; or the stream wasn't opened, or memory ran out before
+-- so; or exchanges are left, but the stream wasn't opened, or memory ran out before
 abbrev pub GoesOn : {I O : Type 0} → (O → Option (List ℕ)) → List ℕ → Account → (opened : List (Opening I O))
     → Book → Result (Track I O) RunFault → Type 0
 GoesOn contents base a opened book (Ok track) = Begins contents base a opened book track
-GoesOn contents base a opened book (Err fault) = IsUnmade opened fault
+GoesOn contents base a opened book (Err fault) = (a.exchanges < most_exchanges) × IsUnmade opened fault
 
 -- ---- its answer is read
 

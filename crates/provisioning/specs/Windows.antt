@@ -1,5 +1,5 @@
 -- Many records at once: in which order anything of them may happen.
-use Rattle.std.specs.Prelude.{◌≡◌, ◌⊎◌, ℕ, List, [], ◌∷◌, ◌++◌, map, Option, Some, None, Result, Ok, Err}
+use Rattle.std.specs.Prelude.{◌≡◌, ◌⊎◌, ◌<◌, ℕ, suc, cond, nat_lt, List, [], ◌∷◌, ◌++◌, length, map, Option, Some, None, Result, Ok, Err}
 use Rattle.scim_key.specs.declared.records.RecordName.{RecordName}
 use Rattle.journal_core.specs.declared.journals.Journal.{Ghosts}
 use Rattle.connector_core.specs.Book.{Book}
@@ -68,14 +68,25 @@ LooksThrough {J = J} remaining g (track ∷ tracks) old new =
     (result : Result (Unit {0}) RunFault) × (between : State J) × Closes remaining g track old between result
     × LooksThrough remaining g tracks between new
 
+-- ---- how many records
+
+-- how many records may be begun beside the first that isn't reported, if so many exchanges may be under way at once
+abbrev pub beside : (streams : ℕ) → ℕ
+beside streams = cond (nat_lt 1 streams) 1024 0
+
+-- how many records may be begun and not reported
+abbrev pub window_of : (streams : ℕ) → ℕ
+window_of streams = suc (beside streams)
+
 module _ {I O J : Type 0} (remaining : I → Option (List ℕ))
-    (contents : O → Option (List ℕ)) (g : Ghosts J) (base : List ℕ) where
+    (contents : O → Option (List ℕ)) (g : Ghosts J) (base : List ℕ) (window : ℕ) where
   -- ---- one move
 
-  -- the first record that waits is begun
+  -- the first record that waits is begun, if fewer than `window` were begun and aren't reported
   pub record IsBegun (opened : List (Opening I O)) (told : List Done) (old new : Scene I O J) : Type 0 where
     pub name : RecordName
     pub track : Track I O
+    pub room : length old.tracks < window
     pub waiting : old.waiting ≡ name ∷ new.waiting
     pub tracks : IsWith track old.tracks new.tracks
     pub begins : Begins contents base (fresh name) opened (book_of old.state.book) track
@@ -136,13 +147,18 @@ module _ {I O J : Type 0} (remaining : I → Option (List ℕ))
 
   -- ---- what ends a run
 
-  -- The cause of a fault: no stream was opened for the next record, or memory ran out; or a record that was under way
-  -- couldn't go on, or learning from its answer ended the run; or a record that is done couldn't be reported. The other
-  -- records are these
+  -- there was room for the next record, but no stream was opened for it, or memory ran out
+  pub record IsUnbegun (last : List (Opening I O)) (scene : Scene I O J) (fault : RunFault) : Type 0 where
+    pub room : length scene.tracks < window
+    pub unmade : IsUnmade last fault
+    pub waits : (last ≡ []) ⊎ ((name : RecordName) × (later : List RecordName) × (scene.waiting ≡ name ∷ later))
+
+  -- The cause of a fault: the next record couldn't be begun; or a record that was under way couldn't go on, or learning
+  -- from its answer ended the run; or a record that is done couldn't be reported. The other records are these
   abbrev pub Causes : (last : List (Opening I O)) → Scene I O J → (rest : List (Track I O)) → (new : State J)
       → RunFault → Type 0
   Causes last scene rest new fault =
-      ((rest ≡ scene.tracks) × (new ≡ scene.state) × IsUnmade last fault)
+      ((rest ≡ scene.tracks) × (new ≡ scene.state) × IsUnbegun last scene fault)
       ⊎ (((track : Track I O) × IsWith track rest scene.tracks
       × Advances remaining contents g base track last scene.state new (Err fault))
       ⊎ ((account : Account) × (standing : Standing) × IsWith (phases.Done account standing) rest scene.tracks
@@ -247,7 +263,8 @@ abbrev pub BeginsNext : {I O : Type 0} → (O → Option (List ℕ)) → List �
 BeginsNext contents base opened waiting later book (Ok (Some track)) = (name : RecordName)
     × (waiting ≡ name ∷ later) × Begins contents base (fresh name) opened book track
 BeginsNext contents base opened waiting later book (Ok None) = (opened ≡ []) × (waiting ≡ []) × (later ≡ [])
-BeginsNext contents base opened waiting later book (Err fault) = IsUnmade opened fault
+BeginsNext contents base opened waiting later book (Err fault) = (name : RecordName)
+    × (waiting ≡ name ∷ later) × IsUnmade opened fault
 
 -- a record is given back; or after a fault it was closed
 abbrev pub Keeps : {I O J : Type 0} → (I → Option (List ℕ)) → Ghosts J → Track I O

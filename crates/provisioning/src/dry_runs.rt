@@ -1,90 +1,40 @@
-//! A journal that keeps no write.
-ghost use Rattle.std.specs.Prelude.{◌≡◌, [], IfOk};
-ghost use Rattle.journal_core.specs.Calls.{Reads};
-ghost use Rattle.journal_core.specs.Stores.{CountsFault};
-ghost use Rattle.provisioning.specs.DryRuns.{Shows};
+//! A run over a copy of a journal's entries.
+ghost use Rattle.std.specs.Prelude.{◌≡◌, IfOk};
+ghost use Rattle.connector_core.specs.State.{IsOpened};
+ghost use Rattle.provisioning.specs.DryRuns.{IsOver, fault_of};
 
-use journal_core::{Entry, Journal};
-use scim_key::{RecordName, ResourceId, Revision, StoreFault};
-use source_csv::Row;
+use crate::faults::RunFault;
+use connector_core::Connector;
+use journal_core::{Entry, MemoryJournal};
+use scim_key::StoreFault;
 use std::alloc::Global;
 
-/// The entries of a journal as they were read. A write is counted and not kept: after it nothing is claimed.
-#[derive(Drop)]
-pub struct DryJournal {
-    entries: Vec<Entry>,
-    writes: u64,
-}
-
-impl DryJournal {
-    /// No entries.
-    pub fn empty(alloc: Global) -> DryJournal
-        ensures entries { result.entries.items ≡ [] }
-        ensures writes { result.writes ≡ 0 }
-    {
-        DryJournal {
-            entries: Vec::new(alloc),
-            writes: 0,
-        }
-    }
-
-    /// The entries of a journal, which is only read.
-    pub fn of<J: Journal>(journal: &mut J) -> Result<DryJournal, StoreFault>
-        ensures shows { J.is_faithful journal.new
-            → IfOk result (Shows (J.entries journal.old)) }
-        ensures reads { Reads J.Journal CountsFault journal.old journal.new result }
-    {
-        match journal.load() {
-            Ok(entries) => Ok(DryJournal { entries, writes: 0 }),
-            Err(fault) => Err(fault),
-        }
+/// A connector over a copy of these entries, as a journal lists them. What it puts stays in memory.
+pub fn open_copy(alloc: Global, entries: Vec<Entry>) -> Result<Connector<MemoryJournal>, RunFault>
+    ensures { IfOk result (λ connector. IsOver entries.items connector.book) }
+{
+    match MemoryJournal::from_entries(alloc, entries) {
+        Ok(copy) => open_over(alloc, copy),
+        Err(fault) => Err(fault_of(fault)),
     }
 }
 
-impl Journal for DryJournal {
-    ghost use Rattle.std.specs.Prelude.{refl};
-    ghost use Rattle.provisioning.specs.DryRuns.{IsDry, entries_of};
-
-    ghost entries = { λ it. entries_of it };
-
-    /// The entries are those of a journal, and nothing was written.
-    ghost is_faithful = { IsDry };
-
-    ghost is_honest = { IsDry };
-
-    ghost may_hold = { λ it found. found ≡ entries_of it };
-
-    ghost faults = { λ _. 0 };
-
-    ghost writes = { λ it. it.writes };
-
-    fn load(&mut self) -> Result<Vec<Entry>, StoreFault> {
-        Ok(self.entries.clone()?)
+/// A connector over a journal in memory.
+fn open_over(alloc: Global, copy: MemoryJournal) -> Result<Connector<MemoryJournal>, RunFault>
+    ensures { IfOk result (λ connector. IsOpened copy.entries connector.book) }
+{
+    match Connector::open(alloc, copy) {
+        Ok(connector) => Ok(connector),
+        Err((fault, _copy)) => Err(RunFault::from(fault)),
     }
+}
 
-    fn put_row(&mut self, _: &Row) -> Result<(), StoreFault> {
-        self.writes = self.writes.saturating_add(1);
-        Ok(())
+/// What ends a run if its journal can't be read.
+pub(crate) fn fault_of(fault: StoreFault) -> RunFault
+    ensures { result ≡ fault_of fault }
+{
+    match fault {
+        StoreFault::Store => RunFault::Journal,
+        StoreFault::Memory => RunFault::Memory,
     }
-
-    fn put_rows(&mut self, _: Vec<Row>) -> Result<(), StoreFault> {
-        self.writes = self.writes.saturating_add(1);
-        Ok(())
-    }
-
-    fn put_learnt(
-        &mut self,
-        _: &RecordName,
-        _: Revision,
-        _: &ResourceId,
-    ) -> Result<(), StoreFault> {
-        self.writes = self.writes.saturating_add(1);
-        Ok(())
-    }
-
-    ghost is_so = { λ _ faithful. faithful };
-
-    ghost settled = { λ _ _ _ holds. holds };
-
-    ghost stays = { λ _ _. refl };
 }

@@ -4,15 +4,16 @@ ghost use Rattle.std.specs.List.{count_by};
 ghost use Rattle.std.specs.Option.{option_copied};
 ghost use Rattle.connector_core.specs.Maps.{book_of};
 ghost use Rattle.journal_core.specs.Calls.{Reads};
-ghost use Rattle.provisioning.specs.Leavers.{CountsDry, CountsIn, CountsOver, NoFewer, fault_of, has_left, is_in_use, is_switched_off, names_in_use};
+ghost use Rattle.provisioning.specs.DryRuns.{IsOver};
+ghost use Rattle.provisioning.specs.Leavers.{CountsIn, CountsOf, CountsOver, NoFewer, has_left, is_in_use, is_switched_off, names_in_use};
 
-use crate::dry_runs::DryJournal;
+use crate::dry_runs::{fault_of, open_copy};
 use crate::faults::RunFault;
 use crate::offering::{Hear, Judged, offer_all};
 use crate::sources::Sources;
 use connector_core::Connector;
-use journal_core::Journal;
-use scim_key::{RecordName, Revision, StoreFault};
+use journal_core::{Entry, Journal, MemoryJournal};
+use scim_key::{RecordName, Revision};
 use source_csv::Row;
 use std::alloc::{AllocError, Global};
 use std::io;
@@ -37,34 +38,23 @@ pub fn count_leavers<J: Journal>(
     journal: &mut J,
     sources: &Sources,
 ) -> Result<usize, RunFault>
-    ensures counts { IfOk result (CountsOver J.Journal ⟦<DryJournal as Journal>⟧ sources.now
+    ensures counts { IfOk result (CountsOver J.Journal ⟦<MemoryJournal as Journal>⟧ sources.now
         journal.old journal.new) }
     ensures reads { Reads J.Journal NoFewer journal.old journal.new result }
 {
-    match DryJournal::of(journal) {
-        Ok(dry) => count_over(alloc, dry, sources),
+    match journal.load() {
+        Ok(entries) => count_of(alloc, entries, sources),
         Err(fault) => Err(fault_of(fault)),
     }
 }
 
-/// What ends a run if its journal can't be read.
-fn fault_of(fault: StoreFault) -> RunFault
-    ensures { result ≡ fault_of fault }
-{
-    match fault {
-        StoreFault::Store => RunFault::Journal,
-        StoreFault::Memory => RunFault::Memory,
-    }
-}
-
 /// The same for the entries of a journal.
-fn count_over(alloc: Global, dry: DryJournal, sources: &Sources) -> Result<usize, RunFault>
-    ensures { IfOk result (CountsDry ⟦<DryJournal as Journal>⟧ sources.now dry) }
+fn count_of(alloc: Global, entries: Vec<Entry>, sources: &Sources) -> Result<usize, RunFault>
+    ensures { IfOk result
+        (CountsOf ⟦<MemoryJournal as Journal>⟧ sources.now (IsOver entries.items)) }
 {
-    match Connector::open(alloc, dry) {
-        Ok(mut connector) => count_in(alloc, &mut connector, sources),
-        Err((fault, _dry)) => Err(RunFault::from(fault)),
-    }
+    let mut connector = open_copy(alloc, entries)?;
+    count_in(alloc, &mut connector, sources)
 }
 
 /// The same for the records of a connector, to which the rows are offered.

@@ -3,7 +3,6 @@
 //! the wanted revision is confirmed.
 #![tactic(auto)]
 
-mod abreast;
 mod carrying;
 mod dialing;
 mod dry_runs;
@@ -33,14 +32,12 @@ mod sockets;
 mod sources;
 mod telling;
 mod tracks;
-mod turns;
 mod watching;
 mod windows;
 
-pub use abreast::push_all_abreast;
 pub use carrying::{Outcome, carry, carry_at};
 pub use dialing::Dial;
-pub use dry_runs::DryJournal;
+pub use dry_runs::open_copy;
 pub use explaining::Failed;
 pub use faults::{RecordFault, RunFault, open_fault, unwritten};
 pub use files::ReadFiles;
@@ -49,11 +46,11 @@ pub use lines::{Lines, RowReports, report_older};
 pub use offering::{Hear, Judged, offer_all};
 pub use older::OlderRow;
 pub use over_tcp::{push, push_quietly};
-pub use paces::{MOST_STREAMS, Pace, push_at};
+pub use paces::{MOST_STREAMS, Pace, one_stream_is_in_turn, push_at};
 pub use planning::{Plan, plan_push};
-pub use pushing::{Tally, push_all};
+pub use pushing::Tally;
 pub use recording::Heard;
-pub use records::{Pushed, Standing, push_record};
+pub use records::{Pushed, Standing};
 pub use sockets::{CONNECTION_SECONDS, Remote};
 pub use sources::{Source, Sources, UnreadFile, label, read_source, read_sources};
 pub use telling::Tell;

@@ -1,17 +1,11 @@
-//! The exchanges for one record.
+//! The state of a record after its exchanges.
 ghost use Rattle.connector_core.specs.Maps.{book_of};
-ghost use Rattle.provisioning.specs.Onward.{Onward};
-ghost use Rattle.provisioning.specs.Openings.{Opens};
-ghost use Rattle.provisioning.specs.Records.{PushesRecord, Stands, most_exchanges};
+ghost use Rattle.provisioning.specs.Records.{Stands, most_exchanges};
 
-use crate::dialing::Dial;
-use crate::faults::{RecordFault, RunFault};
-use crate::turns::{Turn, take_turn};
-use connector_core::{Connector, MOST_EXCHANGES};
+use crate::faults::RecordFault;
+use connector_core::Connector;
 use journal_core::Journal;
-use scim_client::ScimService;
 use scim_key::{Key, RecordName, Revision};
-use std::alloc::Global;
 use std::fmt;
 
 /// The state of a record after its exchanges.
@@ -48,38 +42,6 @@ impl fmt::Display for Standing {
 pub struct Pushed {
     pub exchanges: u32,
     pub standing: Standing,
-}
-
-/// Makes exchanges for a record, each on its own stream, until there is nothing to ask for: at most three.
-/// After the fault of one, the others follow, unless the fault ends the run.
-pub fn push_record<J: Journal, D: Dial>(
-    alloc: Global,
-    service: &ScimService,
-    connector: &mut Connector<J>,
-    dial: &mut D,
-    name: &RecordName,
-) -> Result<Pushed, RunFault>
-    ensures pushes { Opens (D.opened dial.old) (D.opened dial.new) (λ opened. PushesRecord
-        D.Reader.remaining D.Writer.contents J.Journal service.now name.now opened
-        connector.old connector.new result) }
-    ensures onward { Onward connector.old.book connector.new.book }
-{
-    let mut last = None;
-    for exchanges in 0..MOST_EXCHANGES {
-        match take_turn(alloc, service, connector, dial, name)? {
-            Turn::Resting(standing) => {
-                return Ok(Pushed {
-                    exchanges,
-                    standing,
-                });
-            }
-            Turn::Exchanged(fault) => last = fault.or(last),
-        }
-    }
-    Ok(Pushed {
-        exchanges: MOST_EXCHANGES,
-        standing: standing_after(connector, name, last),
-    })
 }
 
 /// The state of a record after all its exchanges.

@@ -1,9 +1,9 @@
 //! Many records at once, on a stream each.
-ghost use Rattle.std.specs.Prelude.{◌≡◌, ◌<◌, IsTrue};
+ghost use Rattle.std.specs.Prelude.{◌≡◌, ◌<◌, ℕ, IsTrue};
 ghost use Rattle.std.specs.VecDeque.{deque_capacity, deque_len};
 ghost use Rattle.connector_core.specs.Maps.{book_of};
 ghost use Rattle.provisioning.specs.Openings.{Opens};
-ghost use Rattle.provisioning.specs.Windows.{BeginsNext, Finishes, Goes, Keeps, LooksThrough, PushesAbreast, PushesThrough, TakesFirst, done_of, scene_of};
+ghost use Rattle.provisioning.specs.Windows.{BeginsNext, Finishes, Goes, Keeps, LooksThrough, PushesAbreast, PushesThrough, TakesFirst, beside, done_of, scene_of, window_of};
 
 use crate::dialing::Dial;
 use crate::faults::RunFault;
@@ -19,8 +19,8 @@ use std::alloc::Global;
 use std::collections::VecDeque;
 use std::io::{Read, Write};
 
-/// How many records may be begun and not reported.
-const WINDOW: usize = 1024;
+/// How many records may be begun beside the first that isn't reported, if there are several streams.
+const MOST_BESIDE: usize = 1024;
 
 /// The records that wait, and those that were begun and aren't reported, both in their order.
 #[derive(Drop)]
@@ -30,7 +30,8 @@ pub(crate) struct Window<R: Drop, W: Drop> {
 }
 
 /// Makes exchanges for these records, for up to `streams` of them at once, and reports each in their order.
-/// After a fault it learns from the answers that are under way.
+/// With one stream, a record begins when the one before it is reported. After a fault it learns from the
+/// answers that are under way.
 pub(crate) fn push_abreast<J: Journal, D: Dial, T: Tell>(
     alloc: Global,
     service: &ScimService,
@@ -41,12 +42,12 @@ pub(crate) fn push_abreast<J: Journal, D: Dial, T: Tell>(
     streams: usize,
 ) -> Result<Tally, RunFault>
     ensures { Opens (D.opened dial.old) (D.opened dial.new) (λ opened. PushesAbreast
-        D.Reader.remaining D.Writer.contents J.Journal service.now names.items opened
+        D.Reader.remaining D.Writer.contents J.Journal service.now (window_of streams) names.items opened
         connector.old connector.new (T.told teller.old) (T.told teller.new) result) }
 {
     let mut window = Window {
         waiting: names,
-        tracks: VecDeque::with_capacity(alloc, WINDOW)?,
+        tracks: VecDeque::with_capacity(alloc, beside(streams))?,
     };
     let pushed = push_through(
         alloc,
@@ -73,7 +74,7 @@ fn push_through<J: Journal, D: Dial, T: Tell>(
     streams: usize,
 ) -> Result<Tally, RunFault>
     ensures { Opens (D.opened dial.old) (D.opened dial.new) (λ opened. PushesThrough
-        D.Reader.remaining D.Writer.contents J.Journal service.now opened
+        D.Reader.remaining D.Writer.contents J.Journal service.now (window_of streams) opened
         (scene_of window.old connector.old) (scene_of window.new connector.new)
         (T.told teller.old) (T.told teller.new) result) }
 {
@@ -97,8 +98,8 @@ fn first_track<J: Journal, D: Dial>(
     dial: &mut D,
     window: &mut Window<D::Reader, D::Writer>,
 ) -> Result<Option<Track<D::Reader, D::Writer>>, RunFault>
-    ensures { Opens (D.opened dial.old) (D.opened dial.new) (λ opened. TakesFirst
-        D.Reader.remaining D.Writer.contents J.Journal service.now opened
+    ensures { Opens (D.opened dial.old) (D.opened dial.new) (λ opened. (most : ℕ) → 0 < most → TakesFirst
+        D.Reader.remaining D.Writer.contents J.Journal service.now most opened
         (scene_of window.old connector.now) (scene_of window.new connector.now) result) }
 {
     match window.tracks.pop_front() {
@@ -139,7 +140,7 @@ fn finish<J: Journal, D: Dial>(
     first: Track<D::Reader, D::Writer>,
 ) -> Result<(RecordName, Pushed), RunFault>
     ensures { Opens (D.opened dial.old) (D.opened dial.new) (λ opened. Finishes
-        D.Reader.remaining D.Writer.contents J.Journal service.now opened first
+        D.Reader.remaining D.Writer.contents J.Journal service.now (window_of streams) opened first
         (scene_of window.old connector.old) (scene_of window.new connector.new) result) }
 {
     let mut first = first;
@@ -192,7 +193,7 @@ fn keep<J: Journal, D: Dial>(
     }
 }
 
-/// Advances each record that was begun.
+/// Advances each record that was begun, and begins none.
 fn advance_others<J: Journal, D: Dial>(
     alloc: Global,
     service: &ScimService,
@@ -201,7 +202,7 @@ fn advance_others<J: Journal, D: Dial>(
     window: &mut Window<D::Reader, D::Writer>,
 ) -> Result<(), RunFault>
     ensures { Opens (D.opened dial.old) (D.opened dial.new) (λ opened. Goes
-        D.Reader.remaining D.Writer.contents J.Journal service.now opened
+        D.Reader.remaining D.Writer.contents J.Journal service.now 0 opened
         (scene_of window.old connector.old) (scene_of window.new connector.new) result) }
 {
     for _turned in 0..window.tracks.len() {
@@ -224,7 +225,7 @@ fn fill<J: Journal, D: Dial>(
     streams: usize,
 ) -> Result<(), RunFault>
     ensures { Opens (D.opened dial.old) (D.opened dial.new) (λ opened. Goes
-        D.Reader.remaining D.Writer.contents J.Journal service.now opened
+        D.Reader.remaining D.Writer.contents J.Journal service.now (beside streams) opened
         (scene_of window.old connector.now) (scene_of window.new connector.now) result) }
 {
     while has_room(&window.tracks, streams) {
@@ -238,9 +239,19 @@ fn fill<J: Journal, D: Dial>(
 
 /// Whether one more record may be begun: with it and one more, at most `streams` are under way.
 fn has_room<R: Read + Drop, W: Write + Drop>(tracks: &VecDeque<Track<R, W>>, streams: usize) -> bool
-    ensures { IsTrue result → deque_len tracks.now < deque_capacity tracks.now }
+    ensures reserved { IsTrue result → deque_len tracks.now < deque_capacity tracks.now }
+    ensures window { IsTrue result → deque_len tracks.now < beside streams }
 {
-    tracks.len() < tracks.capacity() && under_way(tracks).saturating_add(1) < streams
+    tracks.len() < tracks.capacity()
+        && tracks.len() < beside(streams)
+        && under_way(tracks).saturating_add(1) < streams
+}
+
+/// How many records may be begun beside the first that isn't reported.
+fn beside(streams: usize) -> usize
+    ensures { result ≡ beside streams }
+{
+    if streams > 1 { MOST_BESIDE } else { 0 }
 }
 
 /// How many exchanges are under way.

@@ -29,7 +29,7 @@ use Rattle.scim_resource.specs.Writing.{Extension, epoch_data, source_data, sour
 use Rattle.scim_resource.specs.declared.contents.Content.{Content}
 use Rattle.scim_resource.specs.declared.user_texts.UserText.TheVariants.{Department}
 use Rattle.source_csv.specs.Records.{IsRow}
-use Rattle.source_csv.proofs.RowLemmas.{short_text}
+use Rattle.mapping.proofs.RowLemmas.{short_text}
 use Rattle.source_csv.specs.Rows.{UserFields, GroupFields, IsUserRow, IsGroupRow, text_of}
 use Rattle.source_csv.specs.declared.texts.TextField.TheVariants as texts
 use Rattle.source_csv.specs.declared.rows.Row.{Row}

@@ -1,8 +1,6 @@
 -- Runs among others: one act, one act more, and from empty stores.
-use Rattle.std.proofs.Common.{arith, ◌≡◌, ◌<◌, ◌+◌, ℕ, suc, false, List, [], ◌∷◌, ◌++◌, Option, Some, None, map, length, take, drop, refl, ap, sym, subst, inl, ◌∙◌, append-nil}
-use Rattle.std.proofs.Math.ListN.{get_or}
-use Rattle.std.proofs.Math.Seq.{take-suc}
-use Rattle.std.proofs.lemmas.List.{append_assoc, map_push, take-append-drop}
+use Rattle.std.proofs.Common.{◌≡◌, ◌+◌, ℕ, false, List, [], ◌∷◌, ◌++◌, Option, Some, None, map, refl, ap, sym, subst, inl, ◌∙◌, append-nil}
+use Rattle.std.proofs.lemmas.List.{append_assoc, map_push}
 use Rattle.std.specs.List.{AllByRecursion}
 use Rattle.scim_message.specs.Messages.{answer_status}
 use Rattle.scim_message.specs.declared.messages.Request.{Request}
@@ -106,16 +104,6 @@ acts-append w (a ∷ early) late =
     ∙ ap (λ v. (act_of w a ++ rest) ++ acts_of v late) (sym (among-append w (act_of w a) rest))
 
 -- ---- a walk over acts
-
-pub acts_next : (all : List ActOf) (i : ℕ) (act : ActOf) → i < length all → act ≡ get_or all i act → take (i + 1) all ≡ take i all ++ act ∷ []
-acts_next all i act less at =
-    let next : i + 1 ≡ suc i = omega arith in
-    ap (λ n. take n all) next ∙ take-suc all i act less ∙ ap (λ a. take i all ++ a ∷ []) (sym at)
-
-pub acts_split : (all : List ActOf) (i : ℕ) (act : ActOf) → i < length all → act ≡ get_or all i act → all ≡ take i all ++ act ∷ drop (i + 1) all
-acts_split all i act less at =
-    sym (take-append-drop (i + 1) all) ∙ ap (λ early. early ++ drop (i + 1) all) (acts_next all i act less at)
-    ∙ append_assoc (take i all) (act ∷ []) (drop (i + 1) all)
 
 -- ---- without others
 

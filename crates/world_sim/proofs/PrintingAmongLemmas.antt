@@ -9,7 +9,7 @@ use Rattle.world_model.specs.Invariant.{Names}
 use Rattle.world_model.specs.Others.{run_among}
 use Rattle.world_model.specs.World.{World, empty, run}
 use Rattle.world_sim.specs.Amid.{act_text, acts_of}
-use Rattle.world_sim.specs.FollowingAmong.{RunsTellingAmong}
+use Rattle.world_sim.specs.Following.{RunsTellingAmong}
 use Rattle.world_sim.specs.Printing.{PrintsReport, SettlesIf, ShowsEach, others_lines, printed_reports, report_lines, settled_lines, view_lines}
 use Rattle.world_sim.specs.PrintingAmong.{EndsAmong, EndsPrintingAmong, PrintsAmong, ReachesAmong, ShowsOthers}
 use Rattle.world_sim.specs.Running.{IsAmong, IsSound, is_open, names_in}
@@ -53,14 +53,14 @@ module _ {R J : Type 0} (g : Registries R) (h : Journals J) where
       → EndsAmong g h all asked ran (contents between.out) (contents after.out) printed → after.reports ≡ between.reports
       → PrintsAmong g h contents registry journal base all asked before after printed
   all_printed contents registry journal base all asked before between after ran printed runs ends same = record {
-    reports = runs.reports;
+    reports = runs.run.reports;
     count = ends.count;
-    added = ap (λ v. v.items) same ∙ runs.tells.added;
-    one_each = runs.one_each;
+    added = ap (λ v. v.items) same ∙ runs.run.tells.added;
+    one_each = runs.run.one_each;
     counted = counted g h asked ran ends.settled ends.count ends.settles;
-    lines = Appends-trans (contents before.out) (contents between.out) (contents after.out) (report_lines act_text (length before.reports.items + 1) runs.reports)
+    lines = Appends-trans (contents before.out) (contents between.out) (contents after.out) (report_lines act_text (length before.reports.items + 1) runs.run.reports)
         (settled_lines ends.count ++ (view_lines printed.views.items ++ others_lines printed.others.items))
-        (lines_printed act_text contents before runs.reports between runs.tells.done) ends.lines;
+        (lines_printed act_text contents before runs.run.reports between runs.run.tells.done) ends.lines;
     ran = ran;
     was = λ sound. sound_ran sound;
     promise = runs.from_empty;

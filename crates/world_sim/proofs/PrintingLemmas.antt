@@ -118,13 +118,13 @@ module _ {R J : Type 0} (g : Registries R) (h : Journals J) where
       → Ends g h asked ran (contents between.out) (contents after.out) printed → after.reports ≡ between.reports
       → Prints g h contents registry journal base events asked before after printed
   all_printed contents registry journal base events asked before between after ran printed runs ends same = record {
-    reports = runs.reports;
+    reports = runs.run.reports;
     count = ends.count;
-    added = ap (λ v. v.items) same ∙ runs.tells.added;
-    one_each = runs.one_each;
+    added = ap (λ v. v.items) same ∙ runs.run.tells.added;
+    one_each = runs.run.one_each;
     counted = counted asked ran ends.between ends.count ends.settles;
-    lines = Appends-trans (contents before.out) (contents between.out) (contents after.out) (report_lines report_text (length before.reports.items + 1) runs.reports) (settled_lines ends.count ++ view_lines printed.views.items)
-        (lines_printed report_text contents before runs.reports between runs.tells.done) ends.lines;
+    lines = Appends-trans (contents before.out) (contents between.out) (contents after.out) (report_lines report_text (length before.reports.items + 1) runs.run.reports) (settled_lines ends.count ++ view_lines printed.views.items)
+        (lines_printed report_text contents before runs.run.reports between runs.run.tells.done) ends.lines;
     so = λ faithful rows kept sound.
         let at_end = ends.shows.was sound in
         let at_start = settled_was asked ran ends.between ends.count ends.settles at_end in

@@ -1,10 +1,8 @@
 -- Turns one after the other, from connectors that start, to records that are settled and shown.
-use Rattle.std.proofs.Common.{arith, ◌≡◌, ◌<◌, ◌+◌, ◌-◌, ◌^◌, ◌⊎◌, ℕ, zero, suc, Bool, true, false, is_some, List, [], ◌∷◌, ◌++◌, Option, Some, None, Result, Ok, Err, IfErr, map, min, length, take, drop, refl, ap, sym, subst, inl, inr, ◌∙◌, append-nil, append_assoc, length-append}
+use Rattle.std.proofs.Common.{arith, ◌≡◌, ◌<◌, ◌+◌, ◌-◌, ◌^◌, ◌⊎◌, ℕ, zero, suc, Bool, true, false, is_some, List, [], ◌∷◌, ◌++◌, Option, Some, None, Result, Ok, Err, IfErr, map, min, length, refl, ap, sym, subst, inl, inr, ◌∙◌, append-nil, append_assoc, length-append}
 use Rattle.std.proofs.Math.ListN.{get_or}
-use Rattle.std.proofs.Math.Seq.{take-suc}
 use Rattle.std.proofs.KnownBytes.{Appends-trans}
-use Rattle.std.proofs.lemmas.Fn.{FoldsTo-push}
-use Rattle.std.proofs.lemmas.List.{map_push, map-append, take-append-drop}
+use Rattle.std.proofs.lemmas.List.{map_push, map-append}
 use Rattle.std.proofs.lemmas.Option.{slice_get-get_or}
 use Rattle.std.specs.List.{AllByRecursion, slice_get}
 use Rattle.provider_core.specs.declared.registry.Registry.{Ghosts as Registries}
@@ -17,19 +15,19 @@ use Rattle.world_model.specs.Several.{Shared, nobody, world_at, with_world, happ
 use Rattle.world_model.specs.World.{Message}
 use Rattle.world_model.proofs.Several.{always_safe_for_each, always_onward_for_each, headline_holds_for_each}
 use Rattle.world_sim.specs.Events.{event_of, report_of}
-use Rattle.world_sim.specs.Following.{Tells}
+use Rattle.world_sim.specs.Following.{RunsTold}
+use Rattle.world_sim.specs.Transitions.{AreRuns}
 use Rattle.world_sim.specs.Messages.{message_size}
 use Rattle.world_sim.specs.Printing.{PrintsReport, printed_reports, report_lines, settled_lines, view_lines}
 use Rattle.world_sim.specs.Running.{IsAmong, IsSound, Starts, journal_in}
 use Rattle.world_sim.specs.Several.{Adds, FailsToStart, StopsAt, StopsEach, AreAmong, AreSound, GoesOnSharing, HappensAt, IsNew, IsSeatAt, RunsSeveral, RunsSeveralFromEmpty, SettlesAt, SettlesEach, StartsSeveral, seat_of, seated, seats_of, turn_of, turn_report_of, turn_reports, turns_of}
-use Rattle.world_sim.specs.SeveralPrinting.{EndsPrintingSeveral, EndsSeveral, EndsTurn, EndsTurns, FollowsTurn, PrintsSeveral, ReachesEach, RunsTurns, SettlesEachIf, ShowsAt, ShowsEachSide, turn_text, views_lines, views_of}
+use Rattle.world_sim.specs.SeveralPrinting.{EndsPrintingSeveral, EndsSeveral, PrintsSeveral, ReachesEach, SettlesEachIf, ShowsAt, ShowsEachSide, turn_text, views_lines, views_of}
 use Rattle.connector_core.specs.State.{CountsOpen}
 use Rattle.connector_core.specs.declared.opening.ConnectorOpenFault.{ConnectorOpenFault}
 use Rattle.connector_core.specs.declared.opening.ConnectorOpenFault.TheVariants as opening
 use Rattle.world_sim.specs.Events.{opening_fault}
 use Rattle.world_sim.specs.Sides.{CountsWorldFault}
 use Rattle.world_sim.specs.declared.following.TellingFault.{TellingFault}
-use Rattle.world_sim.specs.declared.following.TellingFault.TheVariants.{World, Untold}
 use Rattle.world_sim.specs.declared.printing.ReportLines.{ReportLines}
 use Rattle.world_sim.specs.declared.reports.WorldFault.{WorldFault}
 use Rattle.world_sim.specs.declared.reports.WorldFault.TheVariants.{Memory}
@@ -61,16 +59,6 @@ pushed_at [] x y zero at = inr (cc at)
 pushed_at [] x y (suc i) at = absurd (cc at)
 pushed_at (z ∷ xs) x y zero at = inl at
 pushed_at (z ∷ xs) x y (suc i) at = pushed_at xs x y i at
-
-pub all_at : {X : Type 0} (P : X → Type 0) (xs : List X) (i : ℕ) (x : X) → i < length xs → x ≡ get_or xs i x → AllByRecursion P xs → P x
-all_at P [] i x less at all = absurd (omega (arith, less))
-all_at P (y ∷ xs) zero x less at all = subst P (sym at) all.0
-all_at P (y ∷ xs) (suc i) x less at all = all_at P xs i x (omega (arith, less)) at all.1
-
-pub take_next : {X : Type 0} (xs : List X) (i : ℕ) (x : X) → i < length xs → x ≡ get_or xs i x → take (i + 1) xs ≡ take i xs ++ x ∷ []
-take_next xs i x less at =
-    let next : i + 1 ≡ suc i = omega arith in
-    ap (λ n. take n xs) next ∙ take-suc xs i x less ∙ ap (λ a. take i xs ++ a ∷ []) (sym at)
 
 -- ---- the model's turns
 
@@ -181,7 +169,7 @@ module _ {R J : Type 0} (g : Registries R) (h : Journals J) where
     journals_open = λ sound opened. two.journals_open sound (one.journals_open (two.was sound) opened);
   }
 
-  pub several_none : (r : SharedWorld R J) → RunsSeveral g h r r [] []
+  several_none : (r : SharedWorld R J) → RunsSeveral g h r r [] []
   several_none r = record { on = goes_on r; count = refl; numbers = refl; is = λ sound s among own. among; told_so = λ sound s among own. refl }
 
   several_on : (old mid new : SharedWorld R J) (early : List TurnOf) (turn : TurnOf) (said : List TurnReport) (last : TurnReport)
@@ -204,11 +192,8 @@ module _ {R J : Type 0} (g : Registries R) (h : Journals J) where
         ∙ sym (reports-more (message_size old.first.service) s early turn);
   }
 
-  -- one turn more
-  pub several_more : (old mid new : SharedWorld R J) (turns : List TurnOf) (i : ℕ) (turn : TurnOf) (said : List TurnReport) (last : TurnReport) → i < length turns → turn ≡ get_or turns i turn
-      → RunsSeveral g h old mid (take i turns) said → HappensAt g h mid new turn.place (event_of turn.event) last → RunsSeveral g h old new (take (i + 1) turns) (said ++ last ∷ [])
-  several_more old mid new turns i turn said last less at ran one =
-      subst (λ l. RunsSeveral g h old new l (said ++ last ∷ [])) (sym (take_next turns i turn less at)) (several_on old mid new (take i turns) turn said last ran one)
+  pub turns_run : AreRuns (λ old new turn. HappensAt g h old new turn.place (event_of turn.event)) (RunsSeveral g h)
+  turns_run = record { none = several_none; more = several_on }
 
   -- ---- whole runs
 
@@ -304,7 +289,7 @@ module _ {R J : Type 0} (g : Registries R) (h : Journals J) where
 
   pub all_printed_several : {W : Type 0} (contents : W → Option (List ℕ)) (first ran : SharedWorld R J) (registry : R) (journals : List J) (base : List ℕ) (turns : List TurnOf) (asked : Bool)
       (before between after : ReportLines TurnReport W) (printed : PrintedSeveral R J)
-      → StartsSeveral g h registry journals base first → RunsTurns g h printed_reports (PrintsReport turn_text contents) first ran turns before between
+      → StartsSeveral g h registry journals base first → RunsTold (RunsSeveral g h) printed_reports (PrintsReport turn_text contents) first ran turns before between
       → EndsSeveral g h asked ran (contents between.out) (contents after.out) printed → after.reports ≡ between.reports
       → PrintsSeveral g h contents registry journals base turns asked before after printed
   all_printed_several contents first ran registry journals base turns asked before between after printed starts runs ends same = record {
@@ -368,59 +353,10 @@ module _ {R J : Type 0} (g : Registries R) (h : Journals J) where
   pub stops_each : (old mid new : SharedWorld R J) (place exchanges : ℕ) (fault : WorldFault) → SettlesEach g h old mid place exchanges → StopsAt g h mid new place fault → StopsEach g h old new fault
   stops_each old mid new place exchanges fault settles stops = record { place = place; mid = mid; exchanges = exchanges; settles = settles; stops = stops }
 
-  turns_split : (turns : List TurnOf) (i : ℕ) (turn : TurnOf) → i < length turns → turn ≡ get_or turns i turn → turns ≡ take i turns ++ turn ∷ drop (i + 1) turns
-  turns_split turns i turn less at =
-      sym (take-append-drop (i + 1) turns) ∙ ap (λ early. early ++ drop (i + 1) turns) (take_next turns i turn less at) ∙ append_assoc (take i turns) (turn ∷ []) (drop (i + 1) turns)
-
   -- whatever fails after the turns
   pub stops_after_turns : {W T E : Type 0} (contents : W → Option (List ℕ)) (first ran : SharedWorld R J) (registry : R) (journals : List J) (base : List ℕ) (turns : List TurnOf) (before between after : ReportLines TurnReport W)
-      (result : Result T (TellingFault E)) → StartsSeveral g h registry journals base first → RunsTurns g h printed_reports (PrintsReport turn_text contents) first ran turns before between → after.reports ≡ between.reports
+      (result : Result T (TellingFault E)) → StartsSeveral g h registry journals base first → RunsTold (RunsSeveral g h) printed_reports (PrintsReport turn_text contents) first ran turns before between → after.reports ≡ between.reports
       → IfErr result (EndsPrintingSeveral g h contents registry journals base turns before after)
   stops_after_turns contents first ran registry journals base turns before between after (Ok printed) starts runs same = tt
   stops_after_turns contents first ran registry journals base turns before between after (Err fault) starts runs same =
-      inr (record { first = first; starts = starts; ends = inr (record { between = between; ran = ran; runs = runs; kept = same }) })
-
-module _ {R J F : Type 0} (g : Registries R) (h : Journals J) (told : F → List TurnReport) (does : F → TurnReport → F → Type 0) where
-  pub no_turns : (r : SharedWorld R J) (f : F) → RunsTurns g h told does r r [] f f
-  no_turns r f = record { reports = []; runs = several_none g h r; tells = record { added = sym (append-nil (told f)); done = refl } }
-
-  -- one turn more, whose report was told
-  pub one_turn : (old mid new : SharedWorld R J) (turns : List TurnOf) (i : ℕ) (turn : TurnOf) (before between after : F) → i < length turns → turn ≡ get_or turns i turn
-      → RunsTurns g h told does old mid (take i turns) before between → FollowsTurn g h told does mid new turn between after → RunsTurns g h told does old new (take (i + 1) turns) before after
-  one_turn old mid new turns i turn before between after less at far one = record {
-    reports = far.reports ++ one.report ∷ [];
-    runs = several_more g h old mid new turns i turn far.reports one.report less at far.runs one.happens;
-    tells = record {
-      added = one.added ∙ ap (λ l. l ++ one.report ∷ []) far.tells.added ∙ append_assoc (told before) far.reports (one.report ∷ []);
-      done = FoldsTo-push does before far.reports between one.report after far.tells.done one.done;
-    };
-  }
-
-  -- the turns ended at this one
-  pub turn_ends : {E : Type 0} (first last left : SharedWorld R J) (turns : List TurnOf) (i : ℕ) (turn : TurnOf) (before between after : F) (fault : TellingFault E) → i < length turns → turn ≡ get_or turns i turn
-      → RunsTurns g h told does first last (take i turns) before between → EndsTurn g h told last left turn between after fault → EndsTurns g h told does first turns before after fault
-  turn_ends first last left turns i turn before between after (World fault) less at far ends = record {
-    fails = record {
-      last = last;
-      left = left;
-      early = take i turns;
-      turn = turn;
-      late = drop (i + 1) turns;
-      said = far.reports;
-      split = turns_split g h turns i turn less at;
-      runs = far.runs;
-      fails = ends.fails;
-    };
-    tells = subst (λ f. Tells told does before f far.reports) (sym ends.same) far.tells;
-  }
-  turn_ends first last left turns i turn before between after (Untold why) less at far ends = record {
-    last = left;
-    early = take i turns;
-    turn = turn;
-    late = drop (i + 1) turns;
-    reports = far.reports;
-    report = ends.report;
-    split = turns_split g h turns i turn less at;
-    runs = several_on g h first last left (take i turns) turn far.reports ends.report far.runs ends.happens;
-    misses = record { between = between; tells = far.tells; same = ends.same };
-  }
+      inr (first, starts, inr (record { between = between; ran = ran; runs = runs; kept = same }))

@@ -1,5 +1,5 @@
 -- Whole runs: none yet, one event more, and from empty stores.
-use Rattle.std.proofs.Common.{arith, ◌≡◌, ◌<◌, ◌+◌, ℕ, true, List, [], ◌∷◌, ◌++◌, None, map, length, take, drop, refl, ap, sym, subst, inl, inr, ◌∙◌}
+use Rattle.std.proofs.Common.{arith, ◌≡◌, ◌+◌, ℕ, List, [], ◌∷◌, ◌++◌, None, map, length, refl, ap, sym, subst, ◌∙◌}
 use Rattle.std.proofs.lemmas.List.{map_push}
 use Rattle.std.specs.FinMap.{get, get-empty, keys}
 use Rattle.std.specs.FinMap as fin
@@ -23,20 +23,14 @@ use Rattle.world_model.specs.Reports as model
 use Rattle.world_model.proofs.Safety.{always_safe}
 use Rattle.world_model.proofs.Onwards.{always_onward}
 use Rattle.world_model.proofs.Headlines.{headline_holds}
-use Rattle.std.proofs.Math.ListN.{get_or}
-use Rattle.world_sim.specs.Events.{event_of, events_of, report_of}
-use Rattle.world_sim.specs.Sides.{CountsWorldFault}
-use Rattle.world_sim.specs.declared.events.Event.{Event as EventOf}
-use Rattle.world_sim.specs.declared.reports.WorldFault.{WorldFault}
-use Rattle.world_sim.specs.declared.reports.WorldFault.TheVariants.{Memory, Store}
+use Rattle.world_sim.specs.Events.{report_of}
 use Rattle.world_sim.specs.Messages.{messages_of, texts_of, message_size}
-use Rattle.world_sim.specs.Running.{IsSound, IsAmong, Apart, Happens, Fails, HasBook, Keeps, Starts, Runs, RunsFromEmpty, EndsRun, journal_in, opens_of}
+use Rattle.world_sim.specs.Running.{IsSound, IsAmong, Happens, HasBook, Starts, Runs, RunsFromEmpty, journal_in}
 use Rattle.world_sim.specs.declared.reports.Report.{Report}
 use Rattle.world_sim.specs.declared.sides.Side.TheVariants.{Open}
 use Rattle.world_sim.specs.declared.worlds.World.{World as Running}
 use Rattle.world_sim.proofs.Reaching.{run-more, formed_none, is_at, is_empty, is_of_ours}
 use Rattle.world_sim.proofs.Steps.{are_moved}
-use Rattle.world_sim.proofs.Walks.{events_split}
 
 nothing : {X Y : Type 0} (f : X → Y) (xs : List X) → length xs ≡ 0 → map f xs ≡ []
 nothing f [] e = refl
@@ -134,30 +128,3 @@ module _ {R J : Type 0} (g : Registries R) (h : Journals J) where
     onward = λ early middle late _. always_onward early middle;
     headline = λ early middle late _. headline_holds early middle;
   }
-
-  -- a run that didn't start
-  pub start_ends : (registry : R) (journal left : J) (base : List ℕ) (events : List Event) (fault : WorldFault) → CountsWorldFault (h.faults journal) (h.faults left) fault → EndsRun g h registry journal base events fault
-  start_ends registry journal left base events Memory counts = inl refl
-  start_ends registry journal left base events Store counts = inr (inl (left, counts.1))
-
-  -- a run up to an event that failed
-  pub event_ends : (first last left : Running R J) (registry : R) (journal : J) (base : List ℕ) (es : List EventOf) (i : ℕ) (e : EventOf) (told : List Report) (fault : WorldFault)
-      → i < length es → e ≡ get_or es i e → first.service ≡ base → opens_of first ≡ (true, true) → Starts g h registry journal first → Runs g h first last (events_of (take i es)) told
-      → Fails g h last left (event_of e) fault → Keeps last left (event_of e) → Apart last left (event_of e) → EndsRun g h registry journal base (events_of es) fault
-  event_ends first last left registry journal base es i e told fault less is at opens starts runs fails keeps apart = inr (inr (record {
-    first = first;
-    last = last;
-    left = left;
-    early = events_of (take i es);
-    event = event_of e;
-    late = events_of (drop (i + 1) es);
-    told = told;
-    split = events_split es i e less is;
-    base_is = at;
-    opens = opens;
-    starts = starts;
-    runs = runs;
-    fails = fails;
-    keeps = keeps;
-    apart = apart;
-  }))

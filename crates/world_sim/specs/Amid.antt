@@ -1,5 +1,5 @@
 -- Runs among others: our events, and what others write at the same provider meanwhile.
-use Rattle.std.specs.Prelude.{◌≡◌, ◌⊎◌, ℕ, true, false, List, [], ◌∷◌, ◌++◌, map, codes}
+use Rattle.std.specs.Prelude.{◌≡◌, ◌⊎◌, ℕ, false, List, [], ◌∷◌, ◌++◌, map, codes}
 use Rattle.std.specs.FinMap as fin
 use Rattle.std.specs.Fmt.{decimal}
 use Rattle.std.specs.List.{AllByRecursion}
@@ -15,13 +15,14 @@ use Rattle.world_model.specs.Invariant.{Names}
 use Rattle.world_model.specs.Others.{Act, Ours, Theirs, HeadlineAmong, LeavesAlone, OfOurs, SafeAmong, acts, run_among}
 use Rattle.world_model.specs.Reports.{Report, report}
 use Rattle.world_model.specs.Safe.{Onward, rows as world_rows}
-use Rattle.world_model.specs.World.{World, Message, Event, empty}
+use Rattle.world_model.specs.World.{World, Message, empty}
 use Rattle.world_sim.specs.Acts.{FailsToMake, write_of}
 use Rattle.world_sim.specs.Events.{event_of, events_of, report_of}
 use Rattle.world_sim.specs.Imaging.{row_request}
 use Rattle.world_sim.specs.Lines.{report_text}
 use Rattle.world_sim.specs.Messages.{message_size}
-use Rattle.world_sim.specs.Running.{Apart, Fails, IsAmong, IsSound, Keeps, Makes, RunsFromEmpty, Starts, journal_in, opens_of}
+use Rattle.world_sim.specs.Running.{FailsOurs, IsAmong, IsSound, Makes, RunsFromEmpty, StartsAt, journal_in}
+use Rattle.world_sim.specs.Transitions.{FailsAfter}
 use Rattle.world_sim.specs.declared.acting.Act.{Act as ActOf}
 use Rattle.world_sim.specs.declared.acting.Act.TheVariants as deeds
 use Rattle.world_sim.specs.declared.acting.ActReport.{ActReport as ActReportOf}
@@ -112,13 +113,6 @@ Does g h old new act said =
     Makes g h old new (λ ours w. IsApartFrom ours act → IsAmong g h ours new (after_act w act))
     (λ w. act_report (message_size old.service) w act) act_report_of said
 
--- an event of ours failed
-pub record FailsOurs {R J : Type 0} (g : Registries R) (h : Journals J) (old new : Running R J) (event : Event)
-    (fault : WorldFault) : Type 0 where
-  pub fails : Fails g h old new event fault
-  pub keeps : Keeps old new event
-  pub apart : Apart old new event
-
 -- what others do wasn't done, and the connector and our messages are unchanged
 pub record FailsTheirs {R J : Type 0} (g : Registries R) (h : Journals J) (old new : Running R J)
     (made : World → World) (fault : WorldFault) : Type 0 where
@@ -152,22 +146,12 @@ pub record RunsAmong {R J : Type 0} (g : Registries R) (h : Journals J) (old new
       → AllByRecursion (IsApartFrom ours) all
       → map act_report_of said ≡ act_reports (message_size old.service) w all
 
--- acts up to one that fails, from a world that starts with connector and provider open
-pub record FailsAtAct {R J : Type 0} (g : Registries R) (h : Journals J) (registry : R) (journal : J)
-    (base : List ℕ) (all : List ActOf) (fault : WorldFault) : Type 0 where
-  pub first : Running R J
-  pub last : Running R J
-  pub left : Running R J
-  pub early : List ActOf
-  pub act : ActOf
-  pub late : List ActOf
-  pub said : List ActReportOf
-  pub split : all ≡ early ++ act ∷ late
-  pub base_is : first.service ≡ base
-  pub opens : opens_of first ≡ (true, true)
-  pub starts : Starts g h registry journal first
-  pub runs : RunsAmong g h first last early said
-  pub fails : FailsToDo g h last left act fault
+-- acts up to one that fails, from a world that starts
+abbrev pub FailsAtAct : {R J : Type 0} → Registries R → Journals J → R → J → (base : List ℕ) → List ActOf → WorldFault
+    → Type 0
+FailsAtAct {R} {J} g h registry journal base all fault =
+    (first : Running R J) × StartsAt g h registry journal base first
+    × FailsAfter (RunsAmong g h) (FailsToDo g h) first all fault
 
 -- Why a run failed: a fault of the journal's store was counted at the start, or an act failed, or memory ran out
 abbrev pub EndsRunAmong : {R J : Type 0} → Registries R → Journals J → R → J → (base : List ℕ) → List ActOf

@@ -9,7 +9,7 @@ pub mod GoingOn
 pub mod Acts
 pub mod Imaging
 pub mod Following
-pub mod FollowingAmong
+pub mod Transitions
 pub mod Settling
 pub mod Schedules
 pub mod Views

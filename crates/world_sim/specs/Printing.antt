@@ -151,14 +151,11 @@ pub record Prints {R J W : Type 0} (g : Registries R) (h : Journals J) (contents
   pub so : g.is_faithful registry → g.rows registry ≡ [] → h.entries journal ≡ fin.empty → IsSound g h printed.world
       → IsOf base events reports count printed.views.items
 
--- all events were made and their reports printed, and something failed after them
-pub record StopsAfter {R J W : Type 0} (g : Registries R) (h : Journals J) (contents : W → Option (List ℕ))
-    (registry : R) (journal : J) (base : List ℕ) (events : List Event)
-    (before after : ReportLines Report W) : Type 0 where
-  pub between : ReportLines Report W
-  pub ran : Running R J
-  pub runs : RunsTelling g h printed_reports (PrintsReport report_text contents)
-      registry journal base events before between ran
+-- all transitions were made and their reports printed, and something failed after them
+pub record StopsAfter {X T W : Type 0} (leads : ReportLines T W → X → Type 0) (after : ReportLines T W) : Type 0 where
+  pub between : ReportLines T W
+  pub ran : X
+  pub runs : leads between ran
   pub kept : after.reports ≡ between.reports
 
 -- Why a run ended early: as it does if its reports are told, or after all of them
@@ -166,4 +163,5 @@ abbrev pub EndsPrinting : {R J W E : Type 0} → Registries R → Journals J →
     → (base : List ℕ) → List Event → (before after : ReportLines Report W) → TellingFault E → Type 0
 EndsPrinting g h contents registry journal base events before after fault =
     EndsTelling g h printed_reports (PrintsReport report_text contents) registry journal base events before after fault
-    ⊎ StopsAfter g h contents registry journal base events before after
+    ⊎ StopsAfter
+    (RunsTelling g h printed_reports (PrintsReport report_text contents) registry journal base events before) after

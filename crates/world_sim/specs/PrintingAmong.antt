@@ -13,9 +13,9 @@ use Rattle.world_model.specs.Others.{run_among}
 use Rattle.world_model.specs.Room.{HasRoom}
 use Rattle.world_model.specs.World.{World, Event, empty, names as world_names, run}
 use Rattle.world_sim.specs.Amid.{IsApartFrom, RunsAmongFromEmpty, act_text, acts_of}
-use Rattle.world_sim.specs.FollowingAmong.{EndsTellingAmong, RunsTellingAmong}
-use Rattle.world_sim.specs.Printing.{PrintsReport, SettlesIf, ShowsAll, others_lines, printed_reports, report_lines}
-use Rattle.world_sim.specs.Printing.{settled_lines, view_lines}
+use Rattle.world_sim.specs.Following.{EndsTellingAmong, RunsTellingAmong}
+use Rattle.world_sim.specs.Printing.{PrintsReport, SettlesIf, ShowsAll, StopsAfter, others_lines, printed_reports}
+use Rattle.world_sim.specs.Printing.{report_lines, settled_lines, view_lines}
 use Rattle.world_sim.specs.Running.{IsAmong, IsSound}
 use Rattle.world_sim.specs.Settling.{IsSendOrDeliver, IsSettling}
 use Rattle.world_sim.specs.Strangers.{strangers}
@@ -101,19 +101,10 @@ pub record PrintsAmong {R J W : Type 0} (g : Registries R) (h : Journals J) (con
       → (ours : Names) → AllByRecursion (IsApartFrom ours) all
       → IsOfAmong all count printed.views.items printed.others.items
 
--- all acts were done and their reports printed, and something failed after them
-pub record StopsAfterAmong {R J W : Type 0} (g : Registries R) (h : Journals J) (contents : W → Option (List ℕ))
-    (registry : R) (journal : J) (base : List ℕ) (all : List Act)
-    (before after : ReportLines ActReport W) : Type 0 where
-  pub between : ReportLines ActReport W
-  pub ran : Running R J
-  pub runs : RunsTellingAmong g h printed_reports (PrintsReport act_text contents)
-      registry journal base all before between ran
-  pub kept : after.reports ≡ between.reports
-
 -- Why a run ended early: as it does if its reports are told, or after all of them
 abbrev pub EndsPrintingAmong : {R J W E : Type 0} → Registries R → Journals J → (contents : W → Option (List ℕ)) → R
     → J → (base : List ℕ) → List Act → (before after : ReportLines ActReport W) → TellingFault E → Type 0
 EndsPrintingAmong g h contents registry journal base all before after fault =
     EndsTellingAmong g h printed_reports (PrintsReport act_text contents) registry journal base all before after fault
-    ⊎ StopsAfterAmong g h contents registry journal base all before after
+    ⊎ StopsAfter
+    (RunsTellingAmong g h printed_reports (PrintsReport act_text contents) registry journal base all before) after

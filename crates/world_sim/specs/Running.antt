@@ -25,6 +25,7 @@ use Rattle.world_model.specs.Room.{IsLawfulAct}
 use Rattle.world_sim.specs.Fitting.{IsFormed}
 use Rattle.world_sim.specs.Messages.{IsMessage, message_text, message_size, messages_of, texts_of}
 use Rattle.world_sim.specs.Events.{report_of}
+use Rattle.world_sim.specs.Transitions.{FailsAfter}
 use Rattle.world_sim.specs.declared.messages.Sent.{Sent}
 use Rattle.world_sim.specs.declared.reports.Report.{Report as ReportOf}
 use Rattle.world_sim.specs.declared.reports.WorldFault.{WorldFault}
@@ -321,24 +322,26 @@ pub record Runs {R J : Type 0} (g : Registries R) (h : Journals J) (old new : Ru
       → AllByRecursion (OfOurs ours) events
       → map report_of told ≡ reports (message_size old.service) w events
 
--- events up to one that fails, from a world that starts with connector and provider open
-pub record FailsAt {R J : Type 0} (g : Registries R) (h : Journals J) (registry : R) (journal : J)
-    (base : List ℕ) (events : List Event) (fault : WorldFault) : Type 0 where
-  pub first : Running R J
-  pub last : Running R J
-  pub left : Running R J
-  pub early : List Event
-  pub event : Event
-  pub late : List Event
-  pub told : List ReportOf
-  pub split : events ≡ early ++ event ∷ late
+-- an event failed, with all that is known of that
+pub record FailsOurs {R J : Type 0} (g : Registries R) (h : Journals J) (old new : Running R J) (event : Event)
+    (fault : WorldFault) : Type 0 where
+  pub fails : Fails g h old new event fault
+  pub keeps : Keeps old new event
+  pub apart : Apart old new event
+
+-- a world starts over these stores, with connector and provider open
+pub record StartsAt {R J : Type 0} (g : Registries R) (h : Journals J) (registry : R) (journal : J) (base : List ℕ)
+    (first : Running R J) : Type 0 where
   pub base_is : first.service ≡ base
   pub opens : opens_of first ≡ (true, true)
   pub starts : Starts g h registry journal first
-  pub runs : Runs g h first last early told
-  pub fails : Fails g h last left event fault
-  pub keeps : Keeps last left event
-  pub apart : Apart last left event
+
+-- events up to one that fails, from a world that starts
+abbrev pub FailsAt : {R J : Type 0} → Registries R → Journals J → R → J → (base : List ℕ) → List Event → WorldFault
+    → Type 0
+FailsAt {R} {J} g h registry journal base events fault =
+    (first : Running R J) × StartsAt g h registry journal base first
+    × FailsAfter (Runs g h) (FailsOurs g h) first events fault
 
 -- Why a run failed: a fault of the journal's store was counted at the start, or an event failed, or memory ran out
 abbrev pub EndsRun : {R J : Type 0} → Registries R → Journals J → R → J → (base : List ℕ) → List Event

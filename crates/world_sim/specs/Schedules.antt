@@ -13,6 +13,7 @@ use Rattle.scim_key.specs.declared.records.RecordName.{RecordName}
 use Rattle.scim_filter.specs.Names.{record_named}
 use Rattle.source_csv.specs.Fields.{Record}
 use Rattle.source_csv.specs.Files.{AreRecordsOf, headers_of, rows_of}
+use Rattle.source_csv.specs.declared.layouts.Separator.TheVariants.{Comma}
 use Rattle.source_csv.specs.declared.faults.RowFault.{RowFault}
 use Rattle.source_csv.specs.declared.faults.SourceFault.{SourceFault}
 use Rattle.source_csv.specs.declared.rows.Row.{Row}
@@ -27,7 +28,7 @@ use Rattle.world_sim.specs.declared.schedules.TheConstants.{NUMBER_DIGITS}
 -- the records of each file of the source; `FilesHaveRecords` of source_csv says that every file has exactly one list of
 -- records
 abbrev pub ReadsFiles : (List ℕ → List Record) → Type 0
-ReadsFiles records_in = (bytes : List ℕ) → AreRecordsOf bytes (records_in bytes)
+ReadsFiles records_in = (bytes : List ℕ) → AreRecordsOf Comma bytes (records_in bytes)
 
 -- a file with one record: this header, a line end, and the record
 abbrev pub file_of : Record → List ℕ → List ℕ

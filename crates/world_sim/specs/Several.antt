@@ -14,10 +14,9 @@ use Rattle.world_model.specs.Several.{Shared, nobody, world_at, with_world, Turn
 use Rattle.world_model.specs.Several.{side_after}
 use Rattle.world_model.specs.Several.{NoneShared, EachItsOwn}
 use Rattle.world_model.specs.World.{World, Message, Event}
-use Rattle.world_sim.specs.Amid.{FailsOurs}
 use Rattle.world_sim.specs.Events.{event_of, report_of}
 use Rattle.world_sim.specs.Messages.{message_size}
-use Rattle.world_sim.specs.Running.{Happens, IsAmong, IsSound, Starts, journal_in}
+use Rattle.world_sim.specs.Running.{FailsOurs, Happens, IsAmong, IsSound, Starts, journal_in}
 use Rattle.world_sim.specs.Settling.{IsSettling, Settles, Stops}
 use Rattle.world_sim.specs.Sides.{CountsWorldFault}
 use Rattle.world_sim.specs.declared.reports.WorldFault.{WorldFault}
@@ -248,15 +247,7 @@ pub record StopsEach {R J : Type 0} (g : Registries R) (h : Journals J) (old new
 
 -- ---- runs that ended early
 
--- the turns before one were made, and that one failed: an event on its side did, and all other sides are unchanged
-pub record FailsAtTurn {R J : Type 0} (g : Registries R) (h : Journals J) (first : SharedWorld R J)
-    (turns : List TurnOf) (fault : WorldFault) : Type 0 where
-  pub last : SharedWorld R J
-  pub left : SharedWorld R J
-  pub early : List TurnOf
-  pub turn : TurnOf
-  pub late : List TurnOf
-  pub said : List TurnReport
-  pub split : turns ≡ early ++ turn ∷ late
-  pub runs : RunsSeveral g h first last early said
-  pub fails : FailsAtPlace g h last left turn.place (event_of turn.event) fault
+-- a turn failed: the event on its side did, and all other sides are unchanged
+abbrev pub FailsTurn : {R J : Type 0} → Registries R → Journals J → (old new : SharedWorld R J) → TurnOf → WorldFault
+    → Type 0
+FailsTurn g h old new turn fault = FailsAtPlace g h old new turn.place (event_of turn.event) fault

@@ -11,17 +11,16 @@ use Rattle.world_model.specs.Invariant.{Names}
 use Rattle.world_model.specs.Several.{Shared, nobody, world_at, run_several, NoneShared, EachItsOwn}
 use Rattle.world_model.specs.World.{names as world_names}
 use Rattle.world_sim.specs.Lines.{report_text}
-use Rattle.world_sim.specs.Following.{Misses, Tells}
-use Rattle.world_sim.specs.Printing.{PrintsReport, ShowsAll, printed_reports, report_lines, settled_lines, view_lines}
-use Rattle.world_sim.specs.Events.{event_of}
-use Rattle.world_sim.specs.Several.{FailsAtPlace, FailsAtTurn, FailsToStart, HappensAt, RunsSeveral, StartsSeveral}
+use Rattle.world_sim.specs.Following.{EndsTold, RunsTold}
+use Rattle.world_sim.specs.Printing.{PrintsReport, ShowsAll, StopsAfter, printed_reports, report_lines}
+use Rattle.world_sim.specs.Printing.{settled_lines, view_lines}
+use Rattle.world_sim.specs.Several.{FailsToStart, FailsTurn, RunsSeveral, StartsSeveral}
 use Rattle.world_sim.specs.Several.{AreAmong, AreSettling, AreSound, IsDoneAt, IsNew, IsRunSeveral, SettlesEach}
 use Rattle.world_sim.specs.Several.{seats_of, turns_of}
 use Rattle.world_sim.specs.Views.{view}
 use Rattle.world_sim.specs.declared.following.TellingFault.{TellingFault}
 use Rattle.world_sim.specs.declared.following.TellingFault.TheVariants.{World, Untold}
 use Rattle.world_sim.specs.declared.printing.ReportLines.{ReportLines}
-use Rattle.world_sim.specs.declared.reports.WorldFault.{WorldFault}
 use Rattle.world_sim.specs.declared.several.SharedWorld.{SharedWorld}
 use Rattle.world_sim.specs.declared.several.Turn.{Turn}
 use Rattle.world_sim.specs.declared.several.TurnReport.{TurnReport}
@@ -118,89 +117,17 @@ pub record PrintsSeveral {R J W : Type 0} (g : Registries R) (h : Journals J) (c
       → AreSound g h printed.world → (ours : ℕ → Names) → NoneShared ours → EachItsOwn ours (turns_of turns)
       → IsOfSeveral g h ours base turns reports (length journals) count (map (λ views. views.items) printed.views.items)
 
--- ---- turns whose reports are told
-
--- the turn was made and its report told
-pub record FollowsTurn {R J F : Type 0} (g : Registries R) (h : Journals J) (told : F → List TurnReport)
-    (does : F → TurnReport → F → Type 0) (old new : SharedWorld R J) (turn : Turn) (before after : F) : Type 0 where
-  pub report : TurnReport
-  pub happens : HappensAt g h old new turn.place (event_of turn.event) report
-  pub added : told after ≡ told before ++ report ∷ []
-  pub done : does before report after
-
--- the turn failed, and nothing was told
-pub record FailsTurnUntold {R J F : Type 0} (g : Registries R) (h : Journals J) (old new : SharedWorld R J)
-    (turn : Turn) (before after : F) (fault : WorldFault) : Type 0 where
-  pub fails : FailsAtPlace g h old new turn.place (event_of turn.event) fault
-  pub same : after ≡ before
-
--- the turn was made, and its report couldn't be told
-pub record IsTurnUntold {R J F : Type 0} (g : Registries R) (h : Journals J) (told : F → List TurnReport)
-    (old new : SharedWorld R J) (turn : Turn) (before after : F) : Type 0 where
-  pub report : TurnReport
-  pub happens : HappensAt g h old new turn.place (event_of turn.event) report
-  pub same : told after ≡ told before
-
--- why a run ended at a turn
-abbrev pub EndsTurn : {R J F E : Type 0} → Registries R → Journals J → (told : F → List TurnReport)
-    → (old new : SharedWorld R J) → Turn → (before after : F) → TellingFault E → Type 0
-EndsTurn g h told old new turn before after (World fault) = FailsTurnUntold g h old new turn before after fault
-EndsTurn g h told old new turn before after (Untold why) = IsTurnUntold g h told old new turn before after
-
--- turns were made, one after the other, and their reports were told, and nothing else
-pub record RunsTurns {R J F : Type 0} (g : Registries R) (h : Journals J) (told : F → List TurnReport)
-    (does : F → TurnReport → F → Type 0) (old new : SharedWorld R J) (turns : List Turn) (before after : F)
-    : Type 0 where
-  pub reports : List TurnReport
-  pub runs : RunsSeveral g h old new turns reports
-  pub tells : Tells told does before after reports
-
--- a turn failed, and the reports of the turns before it were told
-pub record FailsTurns {R J F : Type 0} (g : Registries R) (h : Journals J) (told : F → List TurnReport)
-    (does : F → TurnReport → F → Type 0) (first : SharedWorld R J) (turns : List Turn) (before after : F)
-    (fault : WorldFault) : Type 0 where
-  pub fails : FailsAtTurn g h first turns fault
-  pub tells : Tells told does before after fails.said
-
--- a turn was made whose report couldn't be told, and the reports of the turns before it were told
-pub record StopsTurns {R J F : Type 0} (g : Registries R) (h : Journals J) (told : F → List TurnReport)
-    (does : F → TurnReport → F → Type 0) (first : SharedWorld R J) (turns : List Turn) (before after : F)
-    : Type 0 where
-  pub last : SharedWorld R J
-  pub early : List Turn
-  pub turn : Turn
-  pub late : List Turn
-  pub reports : List TurnReport
-  pub report : TurnReport
-  pub split : turns ≡ early ++ turn ∷ late
-  pub runs : RunsSeveral g h first last (early ++ turn ∷ []) (reports ++ report ∷ [])
-  pub misses : Misses told does before after reports
-
--- why turns ended early, and what was told of them
-abbrev pub EndsTurns : {R J F E : Type 0} → Registries R → Journals J → (told : F → List TurnReport)
-    → (does : F → TurnReport → F → Type 0) → (first : SharedWorld R J) → List Turn → (before after : F)
-    → TellingFault E → Type 0
-EndsTurns g h told does first turns before after (World fault) = FailsTurns g h told does first turns before after fault
-EndsTurns g h told does first turns before after (Untold why) = StopsTurns g h told does first turns before after
-
 -- ---- why a run ended early
 
--- all turns were made and their reports printed, and something failed after them
-pub record StopsAfterTurns {R J W : Type 0} (g : Registries R) (h : Journals J) (contents : W → Option (List ℕ))
-    (first : SharedWorld R J) (turns : List Turn) (before after : ReportLines TurnReport W) : Type 0 where
-  pub between : ReportLines TurnReport W
-  pub ran : SharedWorld R J
-  pub runs : RunsTurns g h printed_reports (PrintsReport turn_text contents) first ran turns before between
-  pub kept : after.reports ≡ between.reports
-
--- connectors started over these journals, and their turns ended as their reports were told, or after all of them
-pub record EndsStarted {R J W E : Type 0} (g : Registries R) (h : Journals J) (contents : W → Option (List ℕ))
-    (registry : R) (journals : List J) (base : List ℕ) (turns : List Turn) (before after : ReportLines TurnReport W)
-    (fault : TellingFault E) : Type 0 where
-  pub first : SharedWorld R J
-  pub starts : StartsSeveral g h registry journals base first
-  pub ends : EndsTurns g h printed_reports (PrintsReport turn_text contents) first turns before after fault
-      ⊎ StopsAfterTurns g h contents first turns before after
+-- Why turns ended early: as they do if their reports are told, or after all of them
+abbrev pub EndsTurns : {R J W E : Type 0} → Registries R → Journals J → (contents : W → Option (List ℕ))
+    → (first : SharedWorld R J) → List Turn → (before after : ReportLines TurnReport W) → TellingFault E → Type 0
+EndsTurns g h contents first turns before after fault =
+    EndsTold (RunsSeveral g h) (FailsTurn g h) printed_reports (PrintsReport turn_text contents) first turns
+    before after fault
+    ⊎ StopsAfter
+    (λ between ran. RunsTold (RunsSeveral g h) printed_reports (PrintsReport turn_text contents) first ran turns
+    before between) after
 
 -- a connector didn't start, and nothing was printed
 abbrev pub IsUnstartedSeveral : {J W E : Type 0} → Journals J → List J → (before after : ReportLines TurnReport W)
@@ -211,6 +138,7 @@ IsUnstartedSeveral h journals before after (Untold why) = ⊥
 -- Why a run ended early: a connector didn't start, or the run ended after some of the turns
 abbrev pub EndsPrintingSeveral : {R J W E : Type 0} → Registries R → Journals J → (contents : W → Option (List ℕ)) → R
     → List J → (base : List ℕ) → List Turn → (before after : ReportLines TurnReport W) → TellingFault E → Type 0
-EndsPrintingSeveral g h contents registry journals base turns before after fault =
+EndsPrintingSeveral {R} {J} g h contents registry journals base turns before after fault =
     IsUnstartedSeveral h journals before after fault
-    ⊎ EndsStarted g h contents registry journals base turns before after fault
+    ⊎ ((first : SharedWorld R J) × StartsSeveral g h registry journals base first
+    × EndsTurns g h contents first turns before after fault)

@@ -1,32 +1,31 @@
 //! Runs among others: our events, and what others write at the same provider.
-ghost use Rattle.std.specs.Prelude.{IfErr, IfOk, OnOk};
-ghost use Rattle.world_sim.specs.Amid.{EndsRunAmong, RunsAmongFromEmpty};
-ghost use Rattle.world_sim.specs.FollowingAmong.{EndsAtAct, EndsTellingAmong, FollowsAct, RunsTellingAmong};
+ghost use Rattle.std.specs.Prelude.{IfErr, IfOk};
+ghost use Rattle.world_sim.specs.Amid.{Does, EndsRunAmong, FailsToDo, RunsAmong, RunsAmongFromEmpty};
+ghost use Rattle.world_sim.specs.Following.{EndsTellingAmong, RunsTellingAmong};
 
 use crate::acting::{Act, ActReport};
-use crate::following::{Follow, TellingFault, tell};
+use crate::following::{Follow, TellingFault, Transition, make_all};
 use crate::reports::WorldFault;
 use crate::runs::{Reports, run_fault};
-use crate::worlds::World;
+use crate::worlds::{World, start};
 use journal_core::ReopenJournal;
 use provider_core::Reopen;
 use scim_key::Base;
 use std::alloc::Global;
 
-/// Makes an act, and tells its report.
-fn act_telling<R: Reopen + Drop, J: ReopenJournal + Drop, F: Follow<ActReport>>(
-    world: &mut World<R, J>,
-    act: &Act,
-    follower: &mut F,
-) -> Result<(), TellingFault<F::Fault>>
-    ensures done { OnOk result (FollowsAct R.Registry J.Journal F.told F.does world.old world.new
-        act.now follower.old follower.new) }
-    ensures fault { IfErr result (EndsAtAct R.Registry J.Journal F.told world.old world.new
-        act.now follower.old follower.new) }
-{
-    match world.act(act) {
-        Ok(report) => tell(follower, report),
-        Err(fault) => Err(TellingFault::World(fault)),
+impl<R: Reopen + Drop, J: ReopenJournal + Drop> Transition<World<R, J>> for Act {
+    type Report = ActReport;
+
+    ghost makes = { Does R.Registry J.Journal };
+
+    ghost fails = { FailsToDo R.Registry J.Journal };
+
+    ghost runs = { RunsAmong R.Registry J.Journal };
+
+    ghost fits = { λ _ _. Unit {0} };
+
+    fn make(&self, world: &mut World<R, J>) -> Result<ActReport, WorldFault> {
+        world.act(self)
     }
 }
 
@@ -47,13 +46,8 @@ pub fn run_telling_among<R: Reopen + Drop, J: ReopenJournal + Drop, F: Follow<Ac
         (EndsTellingAmong R.Registry J.Journal F.told F.does registry journal base acts.now
         follower.old follower.new) }
 {
-    let mut world = match World::new(alloc, registry, journal, base) {
-        Ok(world) => world,
-        Err((fault, _registry, _journal)) => return Err(TellingFault::World(fault)),
-    };
-    for act in acts {
-        act_telling(&mut world, act, follower)?;
-    }
+    let mut world = start(alloc, registry, journal, base)?;
+    make_all(&mut world, acts, follower)?;
     Ok(world)
 }
 

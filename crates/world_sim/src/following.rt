@@ -1,16 +1,35 @@
 //! Runs whose reports somebody is told as they come.
 ghost use Rattle.std.specs.Prelude.{◌≡◌, ◌++◌, ◌∷◌, [], List, IfErr, IfOk, OnErr, OnOk};
-ghost use Rattle.world_sim.specs.Events.{event_of, events_of};
-ghost use Rattle.world_sim.specs.Following.{EndsAt, EndsTelling, Follows, IsUntold, RunsTelling};
+ghost use Rattle.std.specs.List.{AllByRecursion};
+ghost use Rattle.world_sim.specs.Following.{EndsAt, EndsTold, Follows, IsUntold, RunsTold};
+ghost use Rattle.world_sim.specs.Transitions.{AreRuns};
+ghost use Rattle.world_sim.specs.declared.reports.WorldFault.{WorldFault as Fault};
 
-use crate::events::Event;
-use crate::reports::{Report, WorldFault};
-use crate::worlds::World;
-use journal_core::ReopenJournal;
-use provider_core::Reopen;
-use scim_key::Base;
-use std::alloc::Global;
+use crate::reports::WorldFault;
 use std::io;
+
+/// What leads from one state of a world to the next: an event, an act, or a turn of several connectors.
+pub(crate) trait Transition<W> {
+    type Report: Drop;
+
+    /// It leads from one world to another, with a report.
+    ghost makes: { W → W → Self → Self.Report → Type 0 };
+
+    /// It failed in one world, which left another.
+    ghost fails: { W → W → Self → Fault → Type 0 };
+
+    /// Some of them, one after the other, lead from one world to another, with their reports.
+    ghost runs: { W → W → List Self → List Self.Report → Type 0 };
+
+    /// It can be made in this world.
+    ghost fits: { W → Self → Type 0 };
+
+    fn make(&self, world: &mut W) -> Result<Self::Report, WorldFault>
+        requires { fits world.old self.now }
+        ensures makes { IfOk result (makes world.old world.new self.now) }
+        ensures fails { IfErr result (fails world.old world.new self.now) }
+        ensures fits { OnOk result ((later : Self) → fits world.old later → fits world.new later) };
+}
 
 /// Who follows a run: he is told each report as soon as the event or the act is made.
 pub trait Follow<T: Drop> {
@@ -59,23 +78,6 @@ impl From<io::Error> for TellingFault<io::Error> {
     }
 }
 
-/// Makes an event, and tells its report.
-fn step_telling<R: Reopen + Drop, J: ReopenJournal + Drop, F: Follow<Report>>(
-    world: &mut World<R, J>,
-    event: &Event,
-    follower: &mut F,
-) -> Result<(), TellingFault<F::Fault>>
-    ensures done { OnOk result (Follows R.Registry J.Journal F.told F.does world.old world.new
-        (event_of event.now) follower.old follower.new) }
-    ensures fault { IfErr result (EndsAt R.Registry J.Journal F.told world.old world.new
-        (event_of event.now) follower.old follower.new) }
-{
-    match world.step(event) {
-        Ok(report) => tell(follower, report),
-        Err(fault) => Err(TellingFault::World(fault)),
-    }
-}
-
 /// Tells a report.
 pub(crate) fn tell<T: Drop, F: Follow<T>>(
     follower: &mut F,
@@ -91,29 +93,41 @@ pub(crate) fn tell<T: Drop, F: Follow<T>>(
     }
 }
 
-/// The world after these events, one after the other, over a registry without rows and a journal without
-/// entries. The follower is told the report of each event before the next event is made. The promise of `run`
-/// holds. If an event fails, or a report can't be told, the run ends there, and both stores are dropped.
-pub fn run_telling<R: Reopen + Drop, J: ReopenJournal + Drop, F: Follow<Report>>(
-    alloc: Global,
-    registry: R,
-    journal: J,
-    base: Base,
-    events: &[Event],
+/// Makes a transition, and tells its report.
+fn make_telling<W, D: Transition<W>, F: Follow<D::Report>>(
+    world: &mut W,
+    next: &D,
     follower: &mut F,
-) -> Result<World<R, J>, TellingFault<F::Fault>>
-    ensures ran { IfOk result (RunsTelling R.Registry J.Journal F.told F.does registry journal base
-        (events_of events.now) follower.old follower.new) }
-    ensures fault { IfErr result
-        (EndsTelling R.Registry J.Journal F.told F.does registry journal base
-        (events_of events.now) follower.old follower.new) }
+) -> Result<(), TellingFault<F::Fault>>
+    requires { D.fits world.old next.now }
+    ensures done { OnOk result (Follows D.makes F.told F.does world.old world.new next.now
+        follower.old follower.new) }
+    ensures fits { OnOk result ((later : D) → D.fits world.old later → D.fits world.new later) }
+    ensures fault { IfErr result (EndsAt D.makes D.fails F.told world.old world.new next.now
+        follower.old follower.new) }
 {
-    let mut world = match World::new(alloc, registry, journal, base) {
-        Ok(world) => world,
-        Err((fault, _registry, _journal)) => return Err(TellingFault::World(fault)),
-    };
-    for event in events {
-        step_telling(&mut world, event, follower)?;
+    match next.make(world) {
+        Ok(report) => tell(follower, report),
+        Err(fault) => Err(TellingFault::World(fault)),
     }
-    Ok(world)
+}
+
+/// Makes these transitions, one after the other. The follower is told the report of each before the next one is made.
+/// If one fails, or a report can't be told, the run ends there.
+pub(crate) fn make_all<W, D: Transition<W>, F: Follow<D::Report>>(
+    world: &mut W,
+    all: &[D],
+    follower: &mut F,
+) -> Result<(), TellingFault<F::Fault>>
+    requires runs { AreRuns D.makes D.runs }
+    requires fits { AllByRecursion (D.fits world.old) all.now }
+    ensures runs { OnOk result (RunsTold D.runs F.told F.does world.old world.new all.now
+        follower.old follower.new) }
+    ensures fault { IfErr result (EndsTold D.runs D.fails F.told F.does world.old all.now
+        follower.old follower.new) }
+{
+    for next in all {
+        make_telling(world, next, follower)?;
+    }
+    Ok(())
 }

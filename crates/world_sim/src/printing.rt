@@ -6,8 +6,9 @@ ghost use Rattle.world_sim.specs.Printing.{Ends, EndsPrinting, Prints, PrintsNex
 ghost use Rattle.world_sim.specs.Views.{Looks, Shows};
 
 use crate::events::Event;
-use crate::following::{Follow, TellingFault, run_telling};
+use crate::following::{Follow, TellingFault};
 use crate::reports::{Report, WorldFault};
+use crate::runs::run_telling;
 use crate::settling::{Count, settle};
 use crate::views::View;
 use crate::worlds::World;

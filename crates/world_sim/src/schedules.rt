@@ -7,6 +7,7 @@ ghost use Rattle.scim_key.specs.Outcome.{Gives, GivesBy};
 ghost use Rattle.scim_filter.specs.Names.{is_lawful, record_named};
 ghost use Rattle.source_csv.specs.Fields.{Record, named};
 ghost use Rattle.source_csv.specs.Files.{AreRecordsOf, rows_of};
+ghost use Rattle.source_csv.specs.declared.layouts.Separator.TheVariants.{Comma};
 ghost use Rattle.world_sim.specs.Schedules.{ReadsFiles, act_in, acts_in, behind, event_in, events_in, file_of, first_word, is_silent, only_row, row_under, said_from, said_lines};
 ghost use Rattle.world_sim.specs.Schedules as spec;
 ghost use Rattle.world_sim.specs.declared.schedules.ScheduleFault.TheVariants as fault;
@@ -80,7 +81,7 @@ fn only_row(mut rows: Vec<Result<Row, RowFault>>) -> Option<Row>
 
 /// The row of a file of this kind, if it has exactly one record and that is a row.
 fn only_row_in(alloc: Global, kind: Kind, bytes: &[u8]) -> Result<Option<Row>, AllocError>
-    ensures { (records : List Record) → AreRecordsOf bytes.now records
+    ensures { (records : List Record) → AreRecordsOf Comma bytes.now records
         → IfOk result (λ row. row ≡ only_row (rows_of kind records)) }
 {
     match read_rows(alloc, kind, bytes) {

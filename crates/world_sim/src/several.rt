@@ -9,7 +9,7 @@ use crate::messages::Sent;
 use crate::reports::{Report, WorldFault};
 use crate::settling::{Count, settle};
 use crate::sides::Side;
-use crate::worlds::{World, keeps_form};
+use crate::worlds::{World, keeps_form, start};
 use connector_core::Connector;
 use core::mem::swap;
 use journal_core::{Journal, ReopenJournal};
@@ -115,13 +115,11 @@ impl<R: Registry + Drop, J: Journal + Drop> SharedWorld<R, J> {
             (StartsSeveral R.Registry J.Journal registry (journal ∷ []) base) }
         ensures fault { IfErr result (FailsToStart J.Journal (journal ∷ [])) }
     {
-        match World::new(alloc, registry, journal, base) {
-            Ok(first) => Ok(SharedWorld {
-                first,
-                others: Vec::new(alloc),
-            }),
-            Err((fault, _registry, _journal)) => Err(fault),
-        }
+        let first = start(alloc, registry, journal, base)?;
+        Ok(SharedWorld {
+            first,
+            others: Vec::new(alloc),
+        })
     }
 
     /// One connector more, over this journal. It has the next number.

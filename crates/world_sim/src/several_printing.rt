@@ -3,10 +3,11 @@ ghost use Rattle.std.specs.Prelude.{◌≡◌, ◌<◌, ◌++◌, ◌∷◌, ◌
 ghost use Rattle.std.specs.Io.KnownBytes.{Appends};
 ghost use Rattle.std.specs.List.{AllByRecursion};
 ghost use Rattle.world_sim.specs.Printing.{settled_lines, view_lines};
-ghost use Rattle.world_sim.specs.Several.{IsBelow, seats_of};
-ghost use Rattle.world_sim.specs.SeveralPrinting.{EndsPrintingSeveral, EndsSeveral, EndsTurn, EndsTurns, FollowsTurn, PrintsSeveral, RunsTurns, SettlesEachIf, ShowsAt, ShowsEachSide, views_lines};
+ghost use Rattle.world_sim.specs.Events.{event_of};
+ghost use Rattle.world_sim.specs.Several.{FailsTurn, HappensAt, IsBelow, RunsSeveral, seats_of};
+ghost use Rattle.world_sim.specs.SeveralPrinting.{EndsPrintingSeveral, EndsSeveral, PrintsSeveral, SettlesEachIf, ShowsAt, ShowsEachSide, views_lines};
 
-use crate::following::{Follow, TellingFault, tell};
+use crate::following::{TellingFault, Transition, make_all};
 use crate::printing::{ReportLines, flush, print_count, print_views};
 use crate::reports::WorldFault;
 use crate::settling::Count;
@@ -27,40 +28,21 @@ pub struct PrintedSeveral<R: Registry + Drop, J: Journal + Drop> {
     pub views: Vec<Vec<View>>,
 }
 
-/// Makes a turn, and tells its report.
-fn turn_telling<R: Reopen + Drop, J: ReopenJournal + Drop, F: Follow<TurnReport>>(
-    world: &mut SharedWorld<R, J>,
-    turn: &Turn,
-    follower: &mut F,
-) -> Result<(), TellingFault<F::Fault>>
-    requires { turn.now.place < length (seats_of world.old) }
-    ensures done { OnOk result (FollowsTurn R.Registry J.Journal F.told F.does world.old world.new
-        turn.now follower.old follower.new) }
-    ensures fault { IfErr result (EndsTurn R.Registry J.Journal F.told world.old world.new
-        turn.now follower.old follower.new) }
-{
-    match world.step(turn.place, &turn.event) {
-        Ok(report) => tell(follower, report),
-        Err(fault) => Err(TellingFault::World(fault)),
-    }
-}
+impl<R: Reopen + Drop, J: ReopenJournal + Drop> Transition<SharedWorld<R, J>> for Turn {
+    type Report = TurnReport;
 
-/// Makes turns, one after the other, and tells the report of each as it comes.
-fn turns_telling<R: Reopen + Drop, J: ReopenJournal + Drop, F: Follow<TurnReport>>(
-    world: &mut SharedWorld<R, J>,
-    turns: &[Turn],
-    follower: &mut F,
-) -> Result<(), TellingFault<F::Fault>>
-    requires { AllByRecursion (IsBelow (length (seats_of world.old))) turns.now }
-    ensures runs { OnOk result (RunsTurns R.Registry J.Journal F.told F.does world.old world.new
-        turns.now follower.old follower.new) }
-    ensures fault { IfErr result (EndsTurns R.Registry J.Journal F.told F.does world.old
-        turns.now follower.old follower.new) }
-{
-    for turn in turns {
-        turn_telling(world, turn, follower)?;
+    ghost makes = { λ old new turn. HappensAt R.Registry J.Journal old new turn.place
+        (event_of turn.event) };
+
+    ghost fails = { FailsTurn R.Registry J.Journal };
+
+    ghost runs = { RunsSeveral R.Registry J.Journal };
+
+    ghost fits = { λ world turn. IsBelow (length (seats_of world)) turn };
+
+    fn make(&self, world: &mut SharedWorld<R, J>) -> Result<TurnReport, WorldFault> {
+        world.step(self.place, &self.event)
     }
-    Ok(())
 }
 
 /// Settles the records of each connector if that is asked for, and prints how many exchanges that took.
@@ -152,7 +134,7 @@ pub fn print_several<R: Reopen + Drop, J: ReopenJournal + Drop, W: Write + Drop>
         (first ∷ others.items) base turns.now lines.old lines.new) }
 {
     let mut world = SharedWorld::start(alloc, registry, first, others, base)?;
-    turns_telling(&mut world, turns, lines)?;
+    make_all(&mut world, turns, lines)?;
     let views = print_end_several(alloc, &mut world, settles, &mut lines.out)?;
     Ok(PrintedSeveral { world, views })
 }

@@ -18,7 +18,7 @@ ghost use Rattle.world_model.specs.World.{Answered, Asked, Changes, Cuts, Delive
 ghost use Rattle.world_sim.specs.Events.{event_of, report_of, unaccepted, unlearnt};
 ghost use Rattle.world_sim.specs.Fitting.{IsFormed};
 ghost use Rattle.world_sim.specs.GoingOn.{FailsOn, GoesOn, unknown_entries};
-ghost use Rattle.world_sim.specs.Running.{Apart, Arrives, Fails, FailsToArrive, Happens, IsOpenedBy, IsShutOff, Keeps, Posts, Starts, Stays, journal_after, journal_in, opens_after, opens_of};
+ghost use Rattle.world_sim.specs.Running.{Apart, Arrives, Fails, FailsToArrive, Happens, IsOpenedBy, IsShutOff, Keeps, Posts, Starts, StartsAt, Stays, journal_after, journal_in, opens_after, opens_of};
 ghost use Rattle.world_sim.specs.Sides.{CountsStart, CountsWorldFault};
 ghost use Rattle.world_sim.specs.declared.reports.Report.TheVariants.{CutShort};
 ghost use Rattle.world_sim.specs.declared.reports.WorldFault.TheVariants.{Memory, Store};
@@ -244,6 +244,23 @@ pub(crate) fn prepared<R: Registry>(
     let pending = provider.prepare(alloc, request)?;
     let text = response_of(alloc, pending.answer(), base)?;
     Ok((pending, text))
+}
+
+/// A world as `World::new` makes it. If it fails, both stores are dropped.
+pub(crate) fn start<R: Registry + Drop, J: Journal + Drop>(
+    alloc: Global,
+    registry: R,
+    journal: J,
+    base: Base,
+) -> Result<World<R, J>, WorldFault>
+    ensures starts { IfOk result (StartsAt R.Registry J.Journal registry journal base) }
+    ensures fault { IfErr result (λ fault. ((left : J)
+        × CountsWorldFault (J.faults journal) (J.faults left) fault)) }
+{
+    match World::new(alloc, registry, journal, base) {
+        Ok(world) => Ok(world),
+        Err((fault, _registry, _journal)) => Err(fault),
+    }
 }
 
 impl<R: Registry + Drop, J: Journal + Drop> World<R, J> {

@@ -1,9 +1,9 @@
-use Rattle.std.proofs.Common.{◌≡◌, ◌^◌, ◌-◌, List, take, drop, length, sym, subst, arith}
+use Rattle.std.proofs.Common.{rules, ◌≡◌, ◌^◌, ◌-◌, List, take, drop, length, sym, subst, arith}
 use Rattle.std.specs.Prelude.{Ok}
 use Rattle.scim_resource.specs.Rows.{StoredRecord}
 use Rattle.provider_core.specs.Listing.{AddsRows, places_of}
 use Rattle.provider_core.specs.declared.registry.TheConstants.{ROWS_AT_ONCE}
-use Rattle.provider_core.proofs.CallLaws.{reads-on}
+use Rattle.provider_core.proofs.CallLaws.{reads-on, reads-as}
 use Rattle.provider_core.proofs.Paging.{finds-further, finds-all}
 use Rattle.provider_core.proofs.listing.find_places.Goals as goal
 
@@ -20,7 +20,8 @@ loop-after-preserved g c =
             subst (λ after. c.add_page.new.places ≡ places_of (take after rows)) (sym c.saturating_add-after.ensures)
             (finds-further (2 ^ 32 - 1) c.args.all c.loop-after.after ROWS_AT_ONCE rows c.loop-after.places c.add_page.new.places (omega arith) short (before.found earlier short) adds);
       },
-      g.met.M.Meanwhile.keeps_on _ _ _ c.loop-after.invariant.1 c.after_page.ensures,
+      g.met.M.Meanwhile.keeps_on _ _ _ c.loop-after.invariant.1 c.after_page-goes_on.ensures.keeps,
+      search rules,
     )
 
 pub returns-clause-ok : goal.returns-clause-ok
@@ -28,3 +29,6 @@ returns-clause-ok g c = λ faithful.
     let rows = g.R.Registry.rows c.args.registry.now in
     let all : c.args.all ≡ length rows = c.requires.counted (c.loop-after.invariant.0.reads.was faithful) in
     finds-all c.args.all c.loop-after.after rows c.loop-after.places (omega arith) (omega (arith, all)) (c.loop-after.invariant.0.found faithful (omega (arith, all)))
+
+pub returns-clause-reads : goal.returns-clause-reads
+returns-clause-reads g c = reads-as g.R.Registry c.loop-after.invariant.0.reads

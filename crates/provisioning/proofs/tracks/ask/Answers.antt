@@ -1,4 +1,4 @@
-use Rattle.std.proofs.Common.{◌≡◌, ◌∷◌, [], Ok, inl, refl, ap, ◌∙◌}
+use Rattle.std.proofs.Common.{◌≡◌, ◌∷◌, [], Ok, inl, inr, refl, ap, ◌∙◌}
 use Rattle.std.specs.Option.{ok_or}
 use Rattle.connector_core.specs.Asking.{asking}
 use Rattle.connector_core.specs.Maps.{book_of}
@@ -6,8 +6,7 @@ use Rattle.connector_core.specs.declared.asking.Ask.TheVariants.{Nothing, Send}
 use Rattle.connector_core.specs.declared.asking.AskFault.TheVariants.{NoSuchRecord}
 use Rattle.provisioning.proofs.ListLemmas.{adds_none}
 use Rattle.provisioning.proofs.RestLemmas.{confirmed_at_rest}
-use Rattle.provisioning.proofs.TrackLemmas.{went_on}
-use Rattle.provisioning.proofs.TurnLemmas.{was_asked}
+use Rattle.provisioning.proofs.TrackLemmas.{was_asked, went_on}
 use Rattle.provisioning.proofs.tracks.ask.Goals as goal
 
 pub returns-in-Ok-Nothing : goal.returns-in-Ok-Nothing
@@ -27,3 +26,6 @@ returns-in-Ok-Send g c =
       went_on g.D.Writer.Write.contents c.args.service.now c.args.account book c.in-Ok-Send.request made.0 c.set_out.result
           c.requires (was_asked (asking book c.args.account.name) (Send c.in-Ok-Send.request) said) made.2,
     )
+
+pub returns-in-Err-Memory : goal.returns-in-Err-Memory
+returns-in-Err-Memory g c = ([], adds_none (g.D.Dial.opened c.args.dial.now), (c.requires, inr (refl, refl)))

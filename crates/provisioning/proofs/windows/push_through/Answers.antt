@@ -1,30 +1,31 @@
-use Rattle.std.proofs.Common.{[], ◌++◌}
+use Rattle.std.proofs.Common.{[], ◌++◌, arith}
 use Rattle.std.proofs.lemmas.Result.{err_from_is_err_and}
 use Rattle.provisioning.proofs.ListLemmas.{adds_more, adds_none}
 use Rattle.provisioning.proofs.WindowLemmas.{fewer_names, takes_this, through_all, through_left, through_next, through_none, through_stopped, through_untold}
-use Rattle.provisioning.specs.Windows.{scene_of}
+use Rattle.provisioning.specs.Windows.{scene_of, window_of}
 use Rattle.provisioning.proofs.windows.push_through.Goals as goal
 
 pub loop-first-init : goal.loop-first-init
-loop-first-init g c = ([], adds_none (g.D.Dial.opened c.args.dial.now), through_none g.D.Reader.Read.remaining g.D.Writer.Write.contents g.J.Journal c.args.service.now (scene_of c.args.window.now c.args.connector.now) (g.T.Tell.told c.args.teller.now))
+loop-first-init g c = ([], adds_none (g.D.Dial.opened c.args.dial.now), through_none g.D.Reader.Read.remaining g.D.Writer.Write.contents g.J.Journal c.args.service.now (window_of c.args.streams) (scene_of c.args.window.now c.args.connector.now) (g.T.Tell.told c.args.teller.now))
 
 pub returns-in_err-first : goal.returns-in_err-first
 returns-in_err-first g c =
     let p = err_from_is_err_and c.from_residual.result c.from_residual.ensures.1 in
     let so = c.loop-first.invariant in
     let t = c.in_err-first.ensures in
-    rw (p.1, p.2) (so.0 ++ t.0, adds_more (g.D.Dial.opened c.args.dial.now) (g.D.Dial.opened c.loop-first.dial) (g.D.Dial.opened c.first_track.new.dial) so.0 t.0 so.1 t.1, through_stopped g.D.Reader.Read.remaining g.D.Writer.Write.contents g.J.Journal c.args.service.now so.0 t.0 (scene_of c.args.window.now c.args.connector.now) (scene_of c.loop-first.window c.loop-first.connector) (scene_of c.first_track.new.window c.loop-first.connector) (g.T.Tell.told c.args.teller.now) (g.T.Tell.told c.loop-first.teller) c.loop-first.tally c.in_err-first.field-0.0 so.2 t.2)
+    rw (p.1, p.2) (so.0 ++ t.0, adds_more (g.D.Dial.opened c.args.dial.now) (g.D.Dial.opened c.loop-first.dial) (g.D.Dial.opened c.first_track.new.dial) so.0 t.0 so.1 t.1, through_stopped g.D.Reader.Read.remaining g.D.Writer.Write.contents g.J.Journal c.args.service.now (window_of c.args.streams) so.0 t.0 (scene_of c.args.window.now c.args.connector.now) (scene_of c.loop-first.window c.loop-first.connector) (scene_of c.first_track.new.window c.loop-first.connector) (g.T.Tell.told c.args.teller.now) (g.T.Tell.told c.loop-first.teller) c.loop-first.tally c.in_err-first.field-0.0 so.2 (t.2 (window_of c.args.streams) (omega arith)))
 
 pub returns-in_err-name : goal.returns-in_err-name
 returns-in_err-name g c =
     let p = err_from_is_err_and c.from_residual-in_err-name.result c.from_residual-in_err-name.ensures.1 in
     let so = c.loop-first.invariant in
     let t = c.in_ok-first.ensures in
+    let takes = t.2 (window_of c.args.streams) (omega arith) in
     let f = c.in_err-name.ensures in
     rw (p.1, p.2) (
       (so.0 ++ t.0) ++ f.0,
       adds_more (g.D.Dial.opened c.args.dial.now) (g.D.Dial.opened c.first_track.new.dial) (g.D.Dial.opened c.finish.new.dial) (so.0 ++ t.0) f.0 (adds_more (g.D.Dial.opened c.args.dial.now) (g.D.Dial.opened c.loop-first.dial) (g.D.Dial.opened c.first_track.new.dial) so.0 t.0 so.1 t.1) f.1,
-      through_left g.D.Reader.Read.remaining g.D.Writer.Write.contents g.J.Journal c.args.service.now so.0 t.0 f.0 (scene_of c.args.window.now c.args.connector.now) (scene_of c.loop-first.window c.loop-first.connector) (scene_of c.first_track.new.window c.loop-first.connector) (scene_of c.finish.new.window c.finish.new.connector) c.in-Some.first (g.T.Tell.told c.args.teller.now) (g.T.Tell.told c.loop-first.teller) c.loop-first.tally c.in_err-name.field-0.0 so.2 (takes_this g.D.Reader.Read.remaining g.D.Writer.Write.contents g.J.Journal c.args.service.now t.0 (scene_of c.loop-first.window c.loop-first.connector) (scene_of c.first_track.new.window c.loop-first.connector) c.in_ok-first.field-0 c.in-Some.first c.in-Some.is t.2) f.2,
+      through_left g.D.Reader.Read.remaining g.D.Writer.Write.contents g.J.Journal c.args.service.now (window_of c.args.streams) so.0 t.0 f.0 (scene_of c.args.window.now c.args.connector.now) (scene_of c.loop-first.window c.loop-first.connector) (scene_of c.first_track.new.window c.loop-first.connector) (scene_of c.finish.new.window c.finish.new.connector) c.in-Some.first (g.T.Tell.told c.args.teller.now) (g.T.Tell.told c.loop-first.teller) c.loop-first.tally c.in_err-name.field-0.0 so.2 (takes_this g.D.Reader.Read.remaining g.D.Writer.Write.contents g.J.Journal c.args.service.now (window_of c.args.streams) t.0 (scene_of c.loop-first.window c.loop-first.connector) (scene_of c.first_track.new.window c.loop-first.connector) c.in_ok-first.field-0 c.in-Some.first c.in-Some.is takes) f.2,
     )
 
 pub returns-in_err-tell : goal.returns-in_err-tell
@@ -32,31 +33,35 @@ returns-in_err-tell g c =
     let p = err_from_is_err_and c.from_residual-in_err-tell.result c.from_residual-in_err-tell.ensures.1 in
     let so = c.loop-first.invariant in
     let t = c.in_ok-first.ensures in
+    let takes = t.2 (window_of c.args.streams) (omega arith) in
     let f = c.in_ok-name.ensures in
     rw (p.1, p.2) (
       ((so.0 ++ t.0) ++ f.0) ++ [],
       adds_more (g.D.Dial.opened c.args.dial.now) (g.D.Dial.opened c.finish.new.dial) (g.D.Dial.opened c.finish.new.dial) ((so.0 ++ t.0) ++ f.0) [] (adds_more (g.D.Dial.opened c.args.dial.now) (g.D.Dial.opened c.first_track.new.dial) (g.D.Dial.opened c.finish.new.dial) (so.0 ++ t.0) f.0 (adds_more (g.D.Dial.opened c.args.dial.now) (g.D.Dial.opened c.loop-first.dial) (g.D.Dial.opened c.first_track.new.dial) so.0 t.0 so.1 t.1) f.1) (adds_none (g.D.Dial.opened c.finish.new.dial)),
-      through_untold g.D.Reader.Read.remaining g.D.Writer.Write.contents g.J.Journal c.args.service.now so.0 t.0 f.0 (scene_of c.args.window.now c.args.connector.now) (scene_of c.loop-first.window c.loop-first.connector) (scene_of c.first_track.new.window c.loop-first.connector) (scene_of c.finish.new.window c.finish.new.connector) c.in-Some.first (g.T.Tell.told c.args.teller.now) (g.T.Tell.told c.loop-first.teller) c.loop-first.tally (c.in_ok-name.name, c.in_ok-name.pushed) c.in_err-tell.field-0.0 so.2 (takes_this g.D.Reader.Read.remaining g.D.Writer.Write.contents g.J.Journal c.args.service.now t.0 (scene_of c.loop-first.window c.loop-first.connector) (scene_of c.first_track.new.window c.loop-first.connector) c.in_ok-first.field-0 c.in-Some.first c.in-Some.is t.2) f.2 c.in_err-tell.ensures.fault,
+      through_untold g.D.Reader.Read.remaining g.D.Writer.Write.contents g.J.Journal c.args.service.now (window_of c.args.streams) so.0 t.0 f.0 (scene_of c.args.window.now c.args.connector.now) (scene_of c.loop-first.window c.loop-first.connector) (scene_of c.first_track.new.window c.loop-first.connector) (scene_of c.finish.new.window c.finish.new.connector) c.in-Some.first (g.T.Tell.told c.args.teller.now) (g.T.Tell.told c.loop-first.teller) c.loop-first.tally (c.in_ok-name.name, c.in_ok-name.pushed) c.in_err-tell.field-0.0 so.2 (takes_this g.D.Reader.Read.remaining g.D.Writer.Write.contents g.J.Journal c.args.service.now (window_of c.args.streams) t.0 (scene_of c.loop-first.window c.loop-first.connector) (scene_of c.first_track.new.window c.loop-first.connector) c.in_ok-first.field-0 c.in-Some.first c.in-Some.is takes) f.2 c.in_err-tell.ensures.fault,
     )
 
 pub loop-first-preserved : goal.loop-first-preserved
 loop-first-preserved g c =
     let so = c.loop-first.invariant in
     let t = c.in_ok-first.ensures in
+    let takes = t.2 (window_of c.args.streams) (omega arith) in
     let f = c.in_ok-name.ensures in (
       ((so.0 ++ t.0) ++ f.0) ++ [],
       adds_more (g.D.Dial.opened c.args.dial.now) (g.D.Dial.opened c.finish.new.dial) (g.D.Dial.opened c.finish.new.dial) ((so.0 ++ t.0) ++ f.0) [] (adds_more (g.D.Dial.opened c.args.dial.now) (g.D.Dial.opened c.first_track.new.dial) (g.D.Dial.opened c.finish.new.dial) (so.0 ++ t.0) f.0 (adds_more (g.D.Dial.opened c.args.dial.now) (g.D.Dial.opened c.loop-first.dial) (g.D.Dial.opened c.first_track.new.dial) so.0 t.0 so.1 t.1) f.1) (adds_none (g.D.Dial.opened c.finish.new.dial)),
-      through_next g.D.Reader.Read.remaining g.D.Writer.Write.contents g.J.Journal c.args.service.now so.0 t.0 f.0 (scene_of c.args.window.now c.args.connector.now) (scene_of c.loop-first.window c.loop-first.connector) (scene_of c.first_track.new.window c.loop-first.connector) (scene_of c.finish.new.window c.finish.new.connector) c.in-Some.first (g.T.Tell.told c.args.teller.now) (g.T.Tell.told c.loop-first.teller) (g.T.Tell.told c.tell.new.teller) c.loop-first.tally c.with-tally.result (c.in_ok-name.name, c.in_ok-name.pushed) so.2 (takes_this g.D.Reader.Read.remaining g.D.Writer.Write.contents g.J.Journal c.args.service.now t.0 (scene_of c.loop-first.window c.loop-first.connector) (scene_of c.first_track.new.window c.loop-first.connector) c.in_ok-first.field-0 c.in-Some.first c.in-Some.is t.2) f.2 c.in_ok-tell.ensures.told c.with-tally.ensures,
+      through_next g.D.Reader.Read.remaining g.D.Writer.Write.contents g.J.Journal c.args.service.now (window_of c.args.streams) so.0 t.0 f.0 (scene_of c.args.window.now c.args.connector.now) (scene_of c.loop-first.window c.loop-first.connector) (scene_of c.first_track.new.window c.loop-first.connector) (scene_of c.finish.new.window c.finish.new.connector) c.in-Some.first (g.T.Tell.told c.args.teller.now) (g.T.Tell.told c.loop-first.teller) (g.T.Tell.told c.tell.new.teller) c.loop-first.tally c.with-tally.result (c.in_ok-name.name, c.in_ok-name.pushed) so.2 (takes_this g.D.Reader.Read.remaining g.D.Writer.Write.contents g.J.Journal c.args.service.now (window_of c.args.streams) t.0 (scene_of c.loop-first.window c.loop-first.connector) (scene_of c.first_track.new.window c.loop-first.connector) c.in_ok-first.field-0 c.in-Some.first c.in-Some.is takes) f.2 c.in_ok-tell.ensures.told c.with-tally.ensures,
     )
 
 pub loop-first-smaller : goal.loop-first-smaller
 loop-first-smaller g c =
     let t = c.in_ok-first.ensures in
+    let takes = t.2 (window_of c.args.streams) (omega arith) in
     let f = c.in_ok-name.ensures in
-    fewer_names g.D.Reader.Read.remaining g.D.Writer.Write.contents g.J.Journal c.args.service.now t.0 f.0 (scene_of c.loop-first.window c.loop-first.connector) (scene_of c.first_track.new.window c.loop-first.connector) (scene_of c.finish.new.window c.finish.new.connector) c.in-Some.first (c.in_ok-name.name, c.in_ok-name.pushed) (takes_this g.D.Reader.Read.remaining g.D.Writer.Write.contents g.J.Journal c.args.service.now t.0 (scene_of c.loop-first.window c.loop-first.connector) (scene_of c.first_track.new.window c.loop-first.connector) c.in_ok-first.field-0 c.in-Some.first c.in-Some.is t.2) f.2
+    fewer_names g.D.Reader.Read.remaining g.D.Writer.Write.contents g.J.Journal c.args.service.now (window_of c.args.streams) t.0 f.0 (scene_of c.loop-first.window c.loop-first.connector) (scene_of c.first_track.new.window c.loop-first.connector) (scene_of c.finish.new.window c.finish.new.connector) c.in-Some.first (c.in_ok-name.name, c.in_ok-name.pushed) (takes_this g.D.Reader.Read.remaining g.D.Writer.Write.contents g.J.Journal c.args.service.now (window_of c.args.streams) t.0 (scene_of c.loop-first.window c.loop-first.connector) (scene_of c.first_track.new.window c.loop-first.connector) c.in_ok-first.field-0 c.in-Some.first c.in-Some.is takes) f.2
 
 pub returns : goal.returns
 returns g c =
     let so = c.loop-first.invariant in
     let t = c.in_ok-first.ensures in
-    (so.0 ++ t.0, adds_more (g.D.Dial.opened c.args.dial.now) (g.D.Dial.opened c.loop-first.dial) (g.D.Dial.opened c.first_track.new.dial) so.0 t.0 so.1 t.1, through_all g.D.Reader.Read.remaining g.D.Writer.Write.contents g.J.Journal c.args.service.now so.0 t.0 (scene_of c.args.window.now c.args.connector.now) (scene_of c.loop-first.window c.loop-first.connector) (scene_of c.first_track.new.window c.loop-first.connector) (g.T.Tell.told c.args.teller.now) (g.T.Tell.told c.loop-first.teller) c.loop-first.tally c.in_ok-first.field-0 c.in_default.is so.2 t.2)
+    let takes = t.2 (window_of c.args.streams) (omega arith) in
+    (so.0 ++ t.0, adds_more (g.D.Dial.opened c.args.dial.now) (g.D.Dial.opened c.loop-first.dial) (g.D.Dial.opened c.first_track.new.dial) so.0 t.0 so.1 t.1, through_all g.D.Reader.Read.remaining g.D.Writer.Write.contents g.J.Journal c.args.service.now (window_of c.args.streams) so.0 t.0 (scene_of c.args.window.now c.args.connector.now) (scene_of c.loop-first.window c.loop-first.connector) (scene_of c.first_track.new.window c.loop-first.connector) (g.T.Tell.told c.args.teller.now) (g.T.Tell.told c.loop-first.teller) c.loop-first.tally c.in_ok-first.field-0 c.in_default.is so.2 takes)

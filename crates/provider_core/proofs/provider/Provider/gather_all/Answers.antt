@@ -1,9 +1,9 @@
-use Rattle.std.proofs.Common.{◌≡◌, ◌≤◌, ◌^◌, ◌-◌, List, take, drop, length, sym, subst, ap, arith}
+use Rattle.std.proofs.Common.{rules, ◌≡◌, ◌≤◌, ◌^◌, ◌-◌, List, take, drop, length, sym, subst, ap, arith}
 use Rattle.std.specs.Prelude.{Ok}
 use Rattle.scim_resource.specs.Rows.{StoredRecord}
 use Rattle.provider_core.specs.Gathering.{GoesThrough}
 use Rattle.provider_core.specs.declared.registry.TheConstants.{ROWS_AT_ONCE}
-use Rattle.provider_core.proofs.CallLaws.{reads-on}
+use Rattle.provider_core.proofs.CallLaws.{reads-on, reads-as}
 use Rattle.provider_core.proofs.Gathering.{goes-further, goes-all, gathers-few}
 use Rattle.provider_core.proofs.provider.Provider.gather_all.Goals as goal
 
@@ -22,7 +22,8 @@ loop-after-preserved g c =
             subst (λ after. GoesThrough kind wanted (take after rows) c.args.gathered.now c.gather_page.new.gathered) (sym c.saturating_add-after.ensures)
             (goes-further kind wanted (2 ^ 32 - 1) c.in_ok-all.all c.loop-after.after ROWS_AT_ONCE rows c.args.gathered.now c.loop-after.gathered c.gather_page.new.gathered (omega arith) short (before.through earlier short) through);
       },
-      g.met.M.Meanwhile.keeps_on _ _ _ c.loop-after.invariant.1 c.after_page.ensures,
+      g.met.M.Meanwhile.keeps_on _ _ _ c.loop-after.invariant.1 c.after_page-goes_on.ensures.keeps,
+      search rules,
     )
 
 pub returns-clause-ok : goal.returns-clause-ok
@@ -38,4 +39,4 @@ returns-clause-ok g c = rw (← c.self.view_is) (λ faithful.
     (goes-all c.args.kind c.args.filter.now c.in_ok-all.all c.loop-after.after rows c.args.gathered.now c.loop-after.gathered (omega arith) (omega (arith, all)) through))
 
 pub returns-clause-reads : goal.returns-clause-reads
-returns-clause-reads g c = rw (← c.self.view_is) (reads-on g.R.Registry c.in_ok-all.ensures.reads c.loop-after.invariant.0.reads)
+returns-clause-reads g c = rw (← c.self.view_is) (reads-on g.R.Registry c.in_ok-all.ensures.reads (reads-as g.R.Registry c.loop-after.invariant.0.reads))

@@ -1,5 +1,5 @@
 use Rattle.std.proofs.Common.{refl}
-use Rattle.world_sim.specs.Amid.{FailsOurs}
+use Rattle.world_sim.specs.Running.{FailsOurs}
 use Rattle.world_sim.specs.Events.{event_of}
 use Rattle.world_sim.specs.Running.{Happens}
 use Rattle.world_sim.proofs.SharingLemmas.{done_at, happens_there}
