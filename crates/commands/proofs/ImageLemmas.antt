@@ -12,6 +12,7 @@ use Rattle.source_csv.proofs.StreamLemmas.{takes_one}
 use Rattle.source_csv.specs.Fields.{Record}
 use Rattle.source_csv.specs.Files.{at_place, read_row, rows_from}
 use Rattle.source_csv.specs.Streams.{HasLeft, Standing, Takes, last_row, place_after, rows_next}
+use Rattle.source_csv.specs.declared.columns.Columns.{Columns}
 use Rattle.source_csv.specs.declared.faults.RowFault.{RowFault}
 use Rattle.source_csv.specs.declared.rows.Row.{Row}
 use Rattle.commands.specs.Images.{Prints, PrintsNext}
@@ -19,23 +20,23 @@ use Rattle.commands.specs.Statuses.{are_rows, status_of_rows}
 use Rattle.commands.specs.declared.status.Status.{Status}
 
 -- the row of the first record, and the rows after it
-next_rows : (k k1 k2 : Kind) (cs cs1 cs2 : Record) (n n1 n2 : ℕ) (fields : Record) (rest records : List Record) (row : Result Row RowFault)
+next_rows : (k k1 k2 : Kind) (cs cs1 cs2 : Columns) (n n1 n2 : ℕ) (fields : Record) (rest records : List Record) (row : Result Row RowFault)
     → k1 ≡ k → k2 ≡ k1 → cs1 ≡ cs → cs2 ≡ cs1 → n1 ≡ n + 1 → n2 ≡ n1 → row ≡ at_place n1 (read_row k1 cs1 fields) → records ≡ fields ∷ rest
     → rows_from k cs (n + 1) records ≡ row ∷ rows_from k2 cs2 (n2 + 1) rest
 next_rows k k1 k2 cs cs1 cs2 n n1 n2 fields rest records row a b c d e f is first = rw (is, first, b, a, d, c, f, e) refl
 
-left_too : (a b : Standing) (records : List Record) → b.remaining ≡ a.remaining → b.state ≡ a.state → HasLeft a records → HasLeft b records
-left_too a b records same state left = rw (same, state) left
+left_too : (a b : Standing) (records : List Record) → b.config ≡ a.config → b.remaining ≡ a.remaining → b.state ≡ a.state → HasLeft a records → HasLeft b records
+left_too a b records grammar same state left = rw (grammar, same, state) left
 
 pub took : (old mid new : Standing) (found : Bool) (row : Result Row RowFault) (records : List Record)
     → found ≡ true → mid.kind ≡ old.kind → mid.columns ≡ old.columns → mid.place ≡ place_after found old.place → new ≡ record mid { fields = new.fields } → row ≡ last_row mid
-    → Takes found mid.fields mid.remaining mid.state records
+    → Takes found mid.fields mid.config mid.remaining mid.state records
     → (rest : List Record) × HasLeft new rest × (rows_next old records ≡ row ∷ rows_next new rest)
 took old mid new found row records one kind columns step same is taken =
-    let (rest, first, left) = takes_one found mid.fields mid.remaining mid.state records one taken in
+    let (rest, first, left) = takes_one found mid.fields mid.config mid.remaining mid.state records one taken in
     let place : mid.place ≡ old.place + 1 = rw one at step in (
       rest,
-      left_too mid new rest (ap (λ (s : Standing). s.remaining) same) (ap (λ (s : Standing). s.state) same) left,
+      left_too mid new rest (ap (λ (s : Standing). s.config) same) (ap (λ (s : Standing). s.remaining) same) (ap (λ (s : Standing). s.state) same) left,
       next_rows old.kind mid.kind new.kind old.columns mid.columns new.columns old.place mid.place new.place mid.fields rest records row kind (ap (λ (s : Standing). s.kind) same) columns (ap (λ (s : Standing). s.columns) same) place (ap (λ (s : Standing). s.place) same) is first,
     )
 

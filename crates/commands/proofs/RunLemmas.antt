@@ -1,23 +1,25 @@
 -- Runs of `push` and `serve`, put together from their parts.
-use Rattle.std.proofs.Common.{◌≡◌, ℕ, List, [], Option, Result, Ok, Err, IfOk}
+use Rattle.std.proofs.Common.{◌≡◌, ℕ, subst, List, [], Option, Result, Ok, Err, IfOk}
 use denote.Ref.{Bor}
 use Rattle.std.specs.Result.{result_and}
 use Rattle.clap.specs.declared.parser.matches.Found.{Found}
 use Rattle.journal_core.specs.Entries.{EntryMap}
+use Rattle.journal_core.specs.Memory.{MemoryRecord}
 use Rattle.journal_core.specs.declared.journals.Journal.{Ghosts}
 use Rattle.scim_resource.specs.Rows.{StoredRecord}
-use Rattle.provider_core.specs.Memory.{MemoryRecord}
+use Rattle.provider_core.specs.Memory.{MemoryRecord as RowsRecord}
 use Rattle.provider_core.specs.declared.registry.Registry.{Ghosts as Registries}
 use Rattle.connection.specs.Requests.{FollowRequests}
 use Rattle.connection.specs.Turns.{ServesTurns}
 use Rattle.connection.specs.declared.serving.ConnectionFault.{ConnectionFault}
 use Rattle.commands.specs.Stored.{ServesFrom}
-use Rattle.commands.specs.Listening.{ServesEmpty, ServesRows}
+use Rattle.storage.specs.StoreOpened.{IsOpenedAt}
+use Rattle.commands.specs.Listening.{ServesEmpty, ServesRows, ServesStored}
 use Rattle.commands.specs.Statuses.{outcome_status}
-use Rattle.commands.specs.Planning.{IsPushed, PushesAs}
+use Rattle.commands.specs.Limits.{PushesOver}
+use Rattle.commands.specs.Planning.{IsPushed}
 use Rattle.commands.specs.Running.{IsJob}
 use Rattle.commands.specs.Looping.{IsLooped, LoopsWith}
-use Rattle.provisioning.specs.declared.dry_runs.DryJournal.{DryJournal}
 use Rattle.commands.specs.declared.jobs.Job.{Job}
 use Rattle.commands.specs.declared.manners.Manner.{Manner}
 use Rattle.commands.specs.declared.status.CommandFault.{CommandFault}
@@ -29,21 +31,33 @@ module _ {I K O R L F S J M H E : Type 0} (remaining : I → Option (List ℕ)) 
   looped found job store journal (Ok status) is loops = (job, is, loops)
   looped found job store journal (Err why) is loops = tt
 
-module _ {L I O : Type 0} (waiting : L → Option (List (I × O))) (remaining : I → Option (List ℕ)) (contents : O → Option (List ℕ)) where
-  pub rows_served : {R : Type 0} (g : Registries R) (finds : List StoredRecord → Type 0) (base : List ℕ) (rows : R) (count : ℕ) (before after : L) (outcome finished : Result (Unit {0}) ConnectionFault) (status : Status)
-      → (last : R) × ServesFrom waiting remaining contents g finds base before after rows last count outcome → status ≡ outcome_status (result_and outcome finished) → ServesRows waiting remaining contents g finds base rows count status
-  rows_served g finds base rows count before after outcome finished status served is =
-      record { before = before; after = after; last = served.0; outcome = outcome; finished = finished; serves = served.1; status_is = is }
+module _ {L I O : Type 0} (waiting : L → Option (List (I × O))) (remaining : I → Option (List ℕ)) (contents : O → Option (List ℕ)) (search_time : L → ℕ) where
+  pub rows_served : {R : Type 0} (g : Registries R) (finds : List StoredRecord → Type 0) (base : List ℕ) (rows : R) (count time : ℕ) (before after : L)
+      (outcome finished : Result (Unit {0}) ConnectionFault) (status : Status)
+      → (last : R) × ServesFrom waiting remaining contents g finds base before after rows last count outcome
+      → status ≡ outcome_status (result_and outcome finished) → search_time before ≡ time
+      → ServesRows waiting remaining contents search_time g finds base rows count time status
+  rows_served g finds base rows count time before after outcome finished status served is has_time =
+      record { before = before; after = after; last = served.0; outcome = outcome; finished = finished; serves = served.1; status_is = is; time_is = has_time }
 
-  pub memory_served : (g : Registries MemoryRecord) (base : List ℕ) (count : ℕ) (before after : L) (outcome finished : Result (Unit {0}) ConnectionFault) (status : Status)
-      → (held : MemoryRecord) × FollowRequests [] held.rows count × ServesTurns waiting remaining contents g base before after (record { rows = []; writes = 0 }) held count outcome
-      → status ≡ outcome_status (result_and outcome finished) → ServesEmpty waiting remaining contents g base count status
-  memory_served g base count before after outcome finished status served is =
-      record { before = before; after = after; held = served.0; outcome = outcome; finished = finished; follows = served.1; serves = served.2; status_is = is }
+  pub stored_served : {R : Type 0} (g : Registries R) (finds : List StoredRecord → Type 0) (base : List ℕ) (rows : R)
+      (count time seconds : ℕ) (status : Status) → IsOpenedAt g finds rows
+      → ServesRows waiting remaining contents search_time g finds base rows count time status → time ≡ seconds
+      → ServesStored waiting remaining contents search_time g finds base count seconds status
+  stored_served g finds base rows count time seconds status opened serves is =
+      (rows, opened, subst (λ (t : ℕ). ServesRows waiting remaining contents search_time g finds base rows count t status) is serves)
+
+  pub memory_served : (g : Registries RowsRecord) (base : List ℕ) (count time : ℕ) (before after : L)
+      (outcome finished : Result (Unit {0}) ConnectionFault) (status : Status)
+      → (held : RowsRecord) × FollowRequests [] held.rows count × ServesTurns waiting remaining contents g base before after (record { rows = []; writes = 0 }) held count outcome
+      → status ≡ outcome_status (result_and outcome finished) → search_time before ≡ time
+      → ServesEmpty waiting remaining contents search_time g base count time status
+  memory_served g base count time before after outcome finished status served is has_time =
+      record { before = before; after = after; held = served.0; outcome = outcome; finished = finished; follows = served.1; serves = served.2; status_is = is; time_is = has_time }
 
 -- the records were carried as the arguments want it
-module _ {I O J L : Type 0} (remaining : I → Option (List ℕ)) (contents : O → Option (List ℕ)) (g : Ghosts J) (h : Ghosts DryJournal) (finds : EntryMap → Type 0) (is_closed : J → L → Type 0) (manner : Manner) (found : Found) (job : Job) where
-  pub pushed : (ended : Result Status CommandFault) → IsJob found job → PushesAs remaining contents g h finds is_closed manner.delivery manner.most_leavers job ended
+module _ {I O J L : Type 0} (remaining : I → Option (List ℕ)) (contents : O → Option (List ℕ)) (g : Ghosts J) (h : Ghosts MemoryRecord) (finds : EntryMap → Type 0) (is_closed : J → L → Type 0) (manner : Manner) (found : Found) (job : Job) where
+  pub pushed : (ended : Result Status CommandFault) → IsJob found job → PushesOver remaining contents g h finds is_closed manner.delivery job manner.most_leavers ended
       → IfOk ended (IsPushed remaining contents g h finds is_closed manner found)
   pushed (Ok status) is pushes = (job, is, pushes)
   pushed (Err why) is pushes = tt

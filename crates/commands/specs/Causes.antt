@@ -3,8 +3,6 @@ use Rattle.std.specs.Prelude.{Option, Some, None, Result, Ok, Err}
 use Rattle.std.specs.declared.io.Error.{Error}
 use Rattle.scim_key.specs.declared.records.Kind.{Kind}
 use Rattle.scim_key.specs.declared.records.Kind.TheVariants as kind
-use Rattle.provider_store.specs.declared.opening.RegistryOpenFault.TheVariants as opening
-use Rattle.journal_store.specs.declared.opening.JournalOpenFault.TheVariants as journal
 use Rattle.provisioning.specs.declared.faults.RunFault.TheVariants as run
 use Rattle.commands.specs.declared.status.CommandFault.{CommandFault}
 use Rattle.commands.specs.declared.status.CommandFault.TheVariants as fault
@@ -39,10 +37,11 @@ source_part kind.Group = part.Groups
 -- the part of a run that failed
 abbrev pub part_of : CommandFault → Option Part
 part_of (fault.Unread what error) = Some what
+part_of (fault.Missing what) = Some what
 part_of (fault.Output error) = Some part.Output
 part_of (fault.Unopened error) = Some part.Listening
-part_of (fault.StoreFile opening.Store) = Some part.Store
-part_of (fault.JournalFile journal.Store) = Some part.Journal
+part_of (fault.StoreFile why) = Some part.Store
+part_of (fault.JournalFile why) = Some part.Journal
 part_of (fault.Run (run.Connection error)) = Some part.Provider
 part_of (fault.Run run.Journal) = Some part.Journal
 part_of _ = None

@@ -1,19 +1,23 @@
--- A push that may switch off only so many users.
+-- A push, which may switch off only so many users if there is a limit.
 use Rattle.std.specs.Prelude.{◌≡◌, ◌⊎◌, ◌<◌, ◌≤◌, ℕ, Bool, false, List, Option, Some, None, Result, Ok, Err, nat_lt}
 use Rattle.std.specs.declared.io.Error.{Error}
 use Rattle.journal_core.specs.Calls.{Reads}
 use Rattle.journal_core.specs.Entries.{EntryMap}
+use Rattle.journal_core.specs.Memory.{MemoryRecord}
 use Rattle.journal_core.specs.declared.journals.Journal.{Ghosts as Journals}
 use Rattle.connector_core.specs.State.{CountsOpenFault, IsKept, IsOpened as IsBookOf, LeavesBook, State}
 use Rattle.connector_core.specs.declared.opening.ConnectorOpenFault.{ConnectorOpenFault}
+use Rattle.journal_store.specs.declared.opening.JournalOpenFault.{JournalOpenFault}
 use Rattle.storage.specs.JournalOpened.{IsOpenedAt}
+use Rattle.provisioning.specs.Faults.{unopened}
 use Rattle.provisioning.specs.Leavers.{CountsOver}
-use Rattle.provisioning.specs.declared.dry_runs.DryJournal.{DryJournal}
 use Rattle.provisioning.specs.declared.sources.Sources.{Sources}
-use Rattle.commands.specs.Running.{IsStart, PushesKnown, ReadsFiles}
+use Rattle.commands.specs.Running.{PushesKnown, ReadsFiles}
+use Rattle.commands.specs.Statuses.{journal_fault}
 use Rattle.commands.specs.declared.jobs.Job.{Job}
 use Rattle.commands.specs.declared.manners.Delivery.{Delivery}
 use Rattle.commands.specs.declared.status.CommandFault.{CommandFault}
+use Rattle.commands.specs.declared.status.CommandFault.TheVariants as fault
 use Rattle.commands.specs.declared.status.Status.{Status}
 use Rattle.commands.specs.declared.status.Status.TheVariants.{Refused}
 
@@ -28,18 +32,23 @@ NoFewer old new fault = old ≤ new
 
 -- ---- the files
 
--- the files of a job were read, and this many users are switched off by them
-pub record IsCounted {J : Type 0} (g : Journals J) (h : Journals DryJournal) (job : Job) (old new : J)
-    (sources : Sources) (count : ℕ) : Type 0 where
-  pub read : ReadsFiles job (Ok sources)
-  pub counted : CountsOver g h sources old new count
-
--- these are the sources if they switch off no more users than this; otherwise there are none
-abbrev pub Approves : {J : Type 0} → Journals J → Journals DryJournal → Job → (most : ℕ) → (old new : J)
+-- the files stay if they switch off no more users than this; otherwise there are none
+abbrev pub IsWithin : {J : Type 0} → Journals J → Journals MemoryRecord → (most : ℕ) → Sources → (old new : J)
     → Option Sources → Type 0
-Approves g h job most old new (Some sources) = (count : ℕ) × IsCounted g h job old new sources count × (count ≤ most)
-Approves g h job most old new None =
-    (sources : Sources) × (count : ℕ) × IsCounted g h job old new sources count × (most < count)
+IsWithin g h most sources old new (Some kept) =
+    (kept ≡ sources) × ((count : ℕ) × CountsOver g h sources old new count × (count ≤ most))
+IsWithin g h most sources old new None = (count : ℕ) × CountsOver g h sources old new count × (most < count)
+
+-- the files of a job were read, and stay if they keep to the limit; they always stay if there is none
+abbrev pub Approves : {J : Type 0} → Journals J → Journals MemoryRecord → Job → (most : Option ℕ) → (old new : J)
+    → Option Sources → Type 0
+Approves g h job (Some most) old new kept =
+    (sources : Sources) × ReadsFiles job (Ok sources) × IsWithin g h most sources old new kept
+Approves g h job None old new kept = (sources : Sources) × ReadsFiles job (Ok sources) × (kept ≡ Some sources)
+
+-- the journal is as it was, or was only read
+abbrev pub IsOnlyRead : {J : Type 0} → Journals J → (old new : J) → Result (Option Sources) CommandFault → Type 0
+IsOnlyRead g old new result = (new ≡ old) ⊎ Reads g NoFewer old new result
 
 -- ---- the run
 
@@ -58,32 +67,41 @@ module _ {I O J L : Type 0} (remaining : I → Option (List ℕ)) (contents : O 
       (end : State J) × (left : L) × PushesKnown remaining contents g delivery base sources start end ended
       × is_closed end.journal left
 
-  -- the same by a connector over this journal; or the journal couldn't be read
+  -- the same by a connector over this journal; or it couldn't be read, and was closed
   abbrev pub PushesEntries : (is_closed : J → L → Type 0) → Delivery → (base : List ℕ) → Sources → (first : J)
       → Result Status CommandFault → Type 0
   PushesEntries is_closed delivery base sources first ended =
       ((start : State J) × IsOver g first start × PushesSources is_closed delivery base sources start ended)
-      ⊎ ((why : CommandFault) × (ended ≡ Err why))
+      ⊎ ((last : J) × (left : L) × (cause : ConnectorOpenFault)
+      × Reads {T = State J} {F = ConnectorOpenFault × J} g CountsOpenFault first last (Err (cause, last))
+      × is_closed last left × (ended ≡ Err (fault.Run (unopened cause))))
 
   -- the files switch off no more users than this, and their records were carried from the journal that was opened
-  abbrev pub IsCarried : (h : Journals DryJournal) → (finds : EntryMap → Type 0) → (is_closed : J → L → Type 0)
-      → Delivery → Job → (most : ℕ) → Result Status CommandFault → Type 0
+  abbrev pub IsCarried : (h : Journals MemoryRecord) → (finds : EntryMap → Type 0) → (is_closed : J → L → Type 0)
+      → Delivery → Job → (most : Option ℕ) → Result Status CommandFault → Type 0
   IsCarried h finds is_closed delivery job most ended =
       (first between : J) × (sources : Sources) × IsOpenedAt g finds first × IsOpenedAt g finds between
       × Approves g h job most first between (Some sources)
       × PushesEntries is_closed delivery job.service sources between ended
 
   -- the files switch off more users than this: the journal was only read, and closed
-  abbrev pub IsStopped : (h : Journals DryJournal) → (finds : EntryMap → Type 0) → (is_closed : J → L → Type 0) → Job
-      → (most : ℕ) → Result Status CommandFault → Type 0
+  abbrev pub IsStopped : (h : Journals MemoryRecord) → (finds : EntryMap → Type 0) → (is_closed : J → L → Type 0)
+      → Job → (most : Option ℕ) → Result Status CommandFault → Type 0
   IsStopped h finds is_closed job most ended =
-      (first last : J) × (left : L) × IsOpenedAt g finds first
-      × Reads {T = Option Sources} g NoFewer first last (Ok None) × Approves g h job most first last None
-      × is_closed last left × (ended ≡ Ok Refused)
+      (first last : J) × (left : L) × IsOpenedAt g finds first × IsOnlyRead g first last (Ok None)
+      × Approves g h job most first last None × is_closed last left × (ended ≡ Ok Refused)
 
-  -- the one or the other; or the journal couldn't be opened or read, or a file couldn't be read, or memory ran out
-  abbrev pub PushesWithin : (h : Journals DryJournal) → (finds : EntryMap → Type 0) → (is_closed : J → L → Type 0)
-      → Delivery → Job → (most : ℕ) → Result Status CommandFault → Type 0
-  PushesWithin h finds is_closed delivery job most ended =
+  -- a file couldn't be read, or the users couldn't be counted: the journal was only read, and closed
+  abbrev pub IsFailed : (finds : EntryMap → Type 0) → (is_closed : J → L → Type 0) → Result Status CommandFault
+      → Type 0
+  IsFailed finds is_closed ended =
+      (first last : J) × (left : L) × (why : CommandFault) × IsOpenedAt g finds first
+      × IsOnlyRead g first last (Err why) × is_closed last left × (ended ≡ Err why)
+
+  -- one of these; or the journal couldn't be opened
+  abbrev pub PushesOver : (h : Journals MemoryRecord) → (finds : EntryMap → Type 0) → (is_closed : J → L → Type 0)
+      → Delivery → Job → (most : Option ℕ) → Result Status CommandFault → Type 0
+  PushesOver h finds is_closed delivery job most ended =
       IsCarried h finds is_closed delivery job most ended
-      ⊎ (IsStopped h finds is_closed job most ended ⊎ ((why : CommandFault) × (ended ≡ Err why)))
+      ⊎ (IsStopped h finds is_closed job most ended ⊎ (IsFailed finds is_closed ended
+      ⊎ ((cause : JournalOpenFault) × (ended ≡ Err (journal_fault cause)))))

@@ -4,22 +4,23 @@ use denote.Ref.{Bor}
 use Rattle.std.specs.declared.io.Error.{Error}
 use Rattle.clap.specs.declared.parser.matches.Found.{Found}
 use Rattle.journal_core.specs.Calls.{Reads}
-use Rattle.journal_core.specs.Entries.{EntryMap}
+use Rattle.journal_core.specs.Entries.{EntryMap, IsListOf}
+use Rattle.journal_core.specs.Memory.{MemoryRecord}
+use Rattle.journal_core.specs.declared.entries.Entry.{Entry}
 use Rattle.journal_core.specs.Stores.{CountsFault}
 use Rattle.journal_core.specs.declared.journals.Journal.{Ghosts as Journals}
 use Rattle.scim_key.specs.declared.stores.StoreFault.{StoreFault}
-use Rattle.connector_core.specs.State.{IsOpened as IsBookOf, State}
+use Rattle.connector_core.specs.State.{State}
 use Rattle.storage.specs.JournalOpened.{IsOpenedAt}
-use Rattle.provisioning.specs.DryRuns.{IsDry, Shows, entries_of}
+use Rattle.provisioning.specs.DryRuns.{IsOver}
 use Rattle.provisioning.specs.Plans.{Plans}
-use Rattle.provisioning.specs.declared.dry_runs.DryJournal.{DryJournal}
 use Rattle.provisioning.specs.declared.faults.RunFault.{RunFault}
 use Rattle.provisioning.specs.declared.planning.Plan.{Plan}
 use Rattle.provisioning.specs.declared.sources.Sources.{Sources}
 use Rattle.commands.specs.Causes.{concluded}
-use Rattle.commands.specs.Limits.{PushesWithin, is_excess}
+use Rattle.commands.specs.Limits.{PushesOver, is_excess}
 use Rattle.commands.specs.Manners.{IsManner}
-use Rattle.commands.specs.Running.{IsJob, PushesOver, ReadsFiles}
+use Rattle.commands.specs.Running.{IsJob, ReadsFiles}
 use Rattle.commands.specs.declared.jobs.Job.{Job}
 use Rattle.commands.specs.declared.manners.Delivery.{Delivery}
 use Rattle.commands.specs.declared.manners.Manner.{Manner}
@@ -39,22 +40,17 @@ planned_status most (Err why) = Err (fault.Run why)
 
 -- ---- the journal
 
--- a journal was only read, and closed
-abbrev pub IsReadFrom : {J L : Type 0} → Journals J → (is_closed : J → L → Type 0) → (first : J) → DryJournal → Type 0
-IsReadFrom {J} {L} g is_closed first dry =
-    (last : J) × (left : L) × Reads {T = DryJournal} {F = StoreFault} g CountsFault first last (Ok dry)
-    × (g.is_faithful last → Shows (g.entries first) dry) × is_closed last left
+-- a journal was only read, and closed; these are its entries
+abbrev pub IsReadFrom : {J L : Type 0} → Journals J → (is_closed : J → L → Type 0) → (first : J) → List Entry → Type 0
+IsReadFrom {J} {L} g is_closed first list =
+    (last : J) × (left : L) × Reads {T = List Entry} {F = StoreFault} g CountsFault first last (Ok list)
+    × (g.is_faithful last → IsListOf (g.entries first) list) × is_closed last left
 
--- there is no journal, and no entry
-pub record IsEmpty (dry : DryJournal) : Type 0 where
-  pub none : dry.entries.items ≡ []
-  pub unwritten : dry.writes ≡ 0
-
--- the journal was looked at; or there is none
+-- the journal was looked at; or there is none, and no entry
 abbrev pub IsLookedAt : {J L : Type 0} → Journals J → (finds : EntryMap → Type 0) → (is_closed : J → L → Type 0)
-    → DryJournal → Type 0
-IsLookedAt {J} g finds is_closed dry =
-    ((first : J) × IsOpenedAt g finds first × IsReadFrom g is_closed first dry) ⊎ IsEmpty dry
+    → List Entry → Type 0
+IsLookedAt {J} g finds is_closed list =
+    ((first : J) × IsOpenedAt g finds first × IsReadFrom g is_closed first list) ⊎ (list ≡ [])
 
 -- ---- a plan
 
@@ -71,18 +67,18 @@ PlansFrom g most job old new status =
     (sources : Sources) × (before after : Option (List ℕ)) × (last : Option Error) × ReadsFiles job (Ok sources)
     × PlansTo g most sources old new before after last (Ok status)
 
--- a connector was opened over entries that aren't written, and planned the files
-pub record PlansOver {J L : Type 0} (g : Journals J) (h : Journals DryJournal) (finds : EntryMap → Type 0)
+-- a connector was opened over a copy of the entries, and planned the files
+pub record PlansOver {J L : Type 0} (g : Journals J) (h : Journals MemoryRecord) (finds : EntryMap → Type 0)
     (is_closed : J → L → Type 0) (most : Option ℕ) (job : Job) (status : Status) : Type 0 where
-  pub dry : DryJournal
-  pub start : State DryJournal
-  pub end : State DryJournal
-  pub looks : IsLookedAt g finds is_closed dry
-  pub opened : IsDry start.journal → IsBookOf (entries_of dry) start.book
+  pub list : List Entry
+  pub start : State MemoryRecord
+  pub end : State MemoryRecord
+  pub looks : IsLookedAt g finds is_closed list
+  pub opened : IsOver list start.book
   pub plans : PlansFrom h most job start end status
 
 -- the same of what the arguments name
-abbrev pub IsPlanned : {J L : Type 0} → Journals J → Journals DryJournal → (finds : EntryMap → Type 0)
+abbrev pub IsPlanned : {J L : Type 0} → Journals J → Journals MemoryRecord → (finds : EntryMap → Type 0)
     → (is_closed : J → L → Type 0) → (most : Option ℕ) → Found → Status → Type 0
 IsPlanned g h finds is_closed most found status =
     (job : Job) × IsJob found job × PlansOver g h finds is_closed most job status
@@ -90,18 +86,12 @@ IsPlanned g h finds is_closed most found status =
 -- ---- `push`
 
 module _ {I O J L : Type 0} (remaining : I → Option (List ℕ)) (contents : O → Option (List ℕ)) (g : Journals J)
-    (h : Journals DryJournal) where
-  -- the records of a job were carried, in this manner
-  abbrev pub PushesAs : (finds : EntryMap → Type 0) → (is_closed : J → L → Type 0) → Delivery → (most : Option ℕ)
-      → Job → Result Status CommandFault → Type 0
-  PushesAs finds is_closed delivery (Some most) job ended =
-      PushesWithin remaining contents g h finds is_closed delivery job most ended
-  PushesAs finds is_closed delivery None job ended = PushesOver remaining contents g finds is_closed delivery job ended
-
-  -- the same of what the arguments name
+    (h : Journals MemoryRecord) where
+  -- the records of the job that the arguments name were carried, in this manner
   abbrev pub IsPushed : (finds : EntryMap → Type 0) → (is_closed : J → L → Type 0) → Manner → Found → Status → Type 0
   IsPushed finds is_closed manner found status =
-      (job : Job) × IsJob found job × PushesAs finds is_closed manner.delivery manner.most_leavers job (Ok status)
+      (job : Job) × IsJob found job
+      × PushesOver remaining contents g h finds is_closed manner.delivery job manner.most_leavers (Ok status)
 
   -- by whether a plan is wanted
   abbrev pub EndsAs : (planned : Bool) → (finds : EntryMap → Type 0) → (is_closed : J → L → Type 0) → Manner → Found

@@ -149,15 +149,3 @@ module _ {I O J : Type 0} (remaining : I → Option (List ℕ)) (contents : O �
   PushesKnown delivery base sources old new ended =
       ((last : Option Error) × Pushes delivery.is_quiet delivery.pace base sources old new last ended)
       ⊎ ((why : CommandFault) × (ended ≡ Err why) × (new ≡ old))
-
-  -- The files of a job were read, and their records carried; or a file couldn't be read, or memory ran out, and the
-  -- connector is as it was
-  abbrev pub PushesFrom : Delivery → Job → (old new : State J) → Result Status CommandFault → Type 0
-  PushesFrom delivery job old new ended =
-      ((sources : Sources) × ReadsFiles job (Ok sources) × PushesKnown delivery job.service sources old new ended)
-      ⊎ ((why : CommandFault) × (ended ≡ Err why) × (new ≡ old))
-
-  -- from a journal that was opened for it, and closed
-  abbrev pub PushesOver : {L : Type 0} → (finds : EntryMap → Type 0) → (is_closed : J → L → Type 0) → Delivery
-      → Job → Result Status CommandFault → Type 0
-  PushesOver finds is_closed delivery job ended = RunsOver g finds is_closed (PushesFrom delivery job) ended

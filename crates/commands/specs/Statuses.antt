@@ -65,6 +65,7 @@ fault_status fault.Base = Usage
 fault_status fault.Listen = Usage
 fault_status fault.To = Usage
 fault_status fault.Requests = Usage
+fault_status fault.LongestSearch = Usage
 fault_status fault.MostLeavers = Usage
 fault_status fault.Streams = Usage
 fault_status fault.Show = Usage
@@ -79,6 +80,7 @@ fault_status (fault.JournalFile why) = Fault
 fault_status fault.OlderJournal = Fault
 fault_status fault.File = Fault
 fault_status (fault.Unread part error) = Fault
+fault_status (fault.Missing part) = Fault
 fault_status (fault.Output error) = Fault
 fault_status (fault.Connection why) = Fault
 fault_status (fault.Unopened error) = Fault
@@ -138,6 +140,8 @@ look_fault (look.Refused why) = journal_fault why
 abbrev pub show_fault : ShowFault → CommandFault
 show_fault (show.Store why) = store_fault why
 show_fault (show.Journal why) = journal_fault why
+show_fault show.NoStore = fault.Missing parts.Store
+show_fault show.NoJournal = fault.Missing parts.Journal
 show_fault show.Memory = fault.Memory
 show_fault show.Output = fault.File
 

@@ -1,12 +1,14 @@
 -- The values of arguments: the value of a required one, or the fault that it is missing.
-use Rattle.std.specs.Prelude.{◌≡◌, ◌^◌, ◌<◌, ◌≤◌, List, ℕ, Option, None, Some, Result, Ok, Err}
+use Rattle.std.specs.Prelude.{◌≡◌, ◌^◌, ◌-◌, ◌<◌, ◌≤◌, List, ℕ, Option, None, Some, Result, Ok, Err}
 use denote.Ref.{Bor}
 use Rattle.std.specs.Str.Parse.{IsNumeral, digits_value, without_leading_plus}
+use Rattle.connection.specs.declared.limits.TheConstants.{SEARCH_SECONDS}
 use Rattle.scim_key.specs.Bases.{base_fault}
 use Rattle.scim_key.specs.declared.names.NameFault.{NameFault}
 use Rattle.commands.specs.Statuses.{base_fault as fault_of_base}
 use Rattle.commands.specs.declared.status.CommandFault.{CommandFault}
 use Rattle.commands.specs.declared.status.CommandFault.TheVariants as fault
+use Rattle.commands.specs.declared.words.TheConstants.{MOST_SEARCH_SECONDS}
 
 -- by the value, if the argument is there
 abbrev pub wanted : (lacking : CommandFault) → Option (List ℕ) → Result (List ℕ) CommandFault
@@ -50,3 +52,13 @@ abbrev pub GivesCount : (most : ℕ) → (wrong : CommandFault) → (given : Opt
 GivesCount most wrong None result = result ≡ Err wrong
 GivesCount most wrong (Some text) (Ok count) = IsCount most text × (count ≡ number_in text)
 GivesCount most wrong (Some text) (Err why) = (IsCount most text → ⊥) × (why ≡ wrong)
+
+-- how many requests are served: the number that is given, from 1 to 1,000,000, or else more than ever come
+abbrev pub GivesRequests : (value text : Option (List ℕ)) → Result ℕ CommandFault → Type 0
+GivesRequests None text result = result ≡ Ok (2 ^ 64 - 1)
+GivesRequests (Some value) text result = GivesCount 1_000_000 fault.Requests text result
+
+-- how many seconds a search may take: the number that is given, from 1 to the most, or else the default
+abbrev pub GivesLongestSearch : (value text : Option (List ℕ)) → Result ℕ CommandFault → Type 0
+GivesLongestSearch None text result = result ≡ Ok SEARCH_SECONDS
+GivesLongestSearch (Some value) text result = GivesCount MOST_SEARCH_SECONDS fault.LongestSearch text result

@@ -7,8 +7,8 @@ use crate::limiting::tell_excess;
 use crate::output::{NotedWriter, standard_output};
 use crate::status::{CommandFault, Status};
 use connector_core::Connector;
-use journal_core::Journal;
-use provisioning::{DryJournal, Plan, RowReports, RunFault, Sources, plan_push};
+use journal_core::{Entry, Journal, MemoryJournal};
+use provisioning::{Plan, RowReports, RunFault, Sources, open_copy, plan_push};
 use scim_key::StoreFault;
 use std::alloc::Global;
 use std::io::{Eprint, Write};
@@ -23,35 +23,35 @@ pub(crate) fn plan_over<R: Runtime + AllocGlobal, J: EntryStorage>(
     job: &Job<'_>,
     most: Option<u32>,
 ) -> Result<Status, CommandFault>
-    ensures { IfOk result (PlansOver J.Entries.Journal ⟦<DryJournal as Journal>⟧
+    ensures { IfOk result (PlansOver J.Entries.Journal ⟦<MemoryJournal as Journal>⟧
         (J.finds storage.now) J.Entries.is_closed most job.now) }
 {
-    let dry = look(rt.alloc(), storage)?;
-    match Connector::open(rt.alloc(), dry) {
+    let entries = look(rt.alloc(), storage)?;
+    match open_copy(rt.alloc(), entries) {
         Ok(mut connector) => plan_from(rt, &mut connector, job, most),
-        Err((fault, _dry)) => Err(CommandFault::from(RunFault::from(fault))),
+        Err(fault) => Err(CommandFault::from(fault)),
     }
 }
 
 /// The entries of the journal, which is closed again; none if there is no journal.
-fn look<J: EntryStorage>(alloc: Global, storage: &J) -> Result<DryJournal, CommandFault>
-    ensures { IfOk result
-        (IsLookedAt J.Entries.Journal (J.finds storage.now) J.Entries.is_closed) }
+fn look<J: EntryStorage>(alloc: Global, storage: &J) -> Result<Vec<Entry>, CommandFault>
+    ensures { IfOk result (λ list.
+        IsLookedAt J.Entries.Journal (J.finds storage.now) J.Entries.is_closed list.items) }
 {
     match storage.look()? {
         Some(entries) => look_into(entries),
-        None => Ok(DryJournal::empty(alloc)),
+        None => Ok(Vec::new(alloc)),
     }
 }
 
 /// The entries of a journal, which is closed.
-fn look_into<E: StoredEntries>(mut entries: E) -> Result<DryJournal, CommandFault>
-    ensures { IfOk result (IsReadFrom E.Journal E.is_closed entries) }
+fn look_into<E: StoredEntries>(mut entries: E) -> Result<Vec<Entry>, CommandFault>
+    ensures { IfOk result (λ list. IsReadFrom E.Journal E.is_closed entries list.items) }
 {
-    let dry = DryJournal::of(&mut entries);
+    let list = entries.load();
     entries.close();
-    match dry {
-        Ok(dry) => Ok(dry),
+    match list {
+        Ok(list) => Ok(list),
         Err(fault) => Err(unread(fault)),
     }
 }

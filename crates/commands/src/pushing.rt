@@ -2,11 +2,12 @@
 ghost use Rattle.std.specs.Prelude.{IfOk};
 ghost use Rattle.clap.specs.Matches.{found_of};
 ghost use Rattle.commands.specs.Planning.{IsPlanned, IsPushed, IsPushedAt};
-ghost use Rattle.commands.specs.Running.{CarriesAs, GivesConnector, Pushes, PushesFrom, PushesKnown, PushesOver};
+ghost use Rattle.commands.specs.Limits.{PushesEntries, PushesOver, PushesSources};
+ghost use Rattle.commands.specs.Running.{CarriesAs, GivesConnector, Pushes, PushesKnown};
 
 use crate::endings::pushed_status;
 use crate::jobs::Job;
-use crate::limiting::push_within;
+use crate::limiting::approved;
 use crate::manners::{Delivery, Manner};
 use crate::output::{NotedWriter, standard_output};
 use crate::planning::plan_over;
@@ -14,8 +15,8 @@ use crate::status::{CommandFault, Status};
 use crate::words::to;
 use clap::ArgMatches;
 use connector_core::Connector;
-use journal_core::Journal;
-use provisioning::{DryJournal, Outcome, RunFault, Sources, push_quietly};
+use journal_core::{Journal, MemoryJournal};
+use provisioning::{Outcome, RunFault, Sources, push_quietly};
 use scim_client::ScimService;
 use std::alloc::Global;
 use std::io::{Read, Write};
@@ -33,7 +34,7 @@ pub fn push<'a, R: Runtime + Net + AllocGlobal, J: EntryStorage>(
 ) -> Result<Status, CommandFault>
     ensures { IfOk result (IsPushedAt ⟦<TimedHandle<'a, R::Stream, R> as Read>⟧.remaining
         ⟦<TimedHandle<'a, R::Stream, R> as Write>⟧.contents J.Entries.Journal
-        ⟦<DryJournal as Journal>⟧ J.finds J.Entries.is_closed (found_of words.now) journal.entry) }
+        ⟦<MemoryJournal as Journal>⟧ J.finds J.Entries.is_closed (found_of words.now) journal.entry) }
 {
     let storage = journal.ok_or(CommandFault::File)?;
     let manner = Manner::of(words)?;
@@ -51,7 +52,7 @@ fn plan_named<R: Runtime + AllocGlobal, J: EntryStorage>(
     storage: &J,
     most: Option<u32>,
 ) -> Result<Status, CommandFault>
-    ensures { IfOk result (IsPlanned J.Entries.Journal ⟦<DryJournal as Journal>⟧
+    ensures { IfOk result (IsPlanned J.Entries.Journal ⟦<MemoryJournal as Journal>⟧
         (J.finds storage.now) J.Entries.is_closed most (found_of words.now)) }
 {
     let job = Job::of(rt.alloc(), words)?;
@@ -67,31 +68,79 @@ fn push_named<'a, R: Runtime + Net + AllocGlobal, J: EntryStorage>(
 ) -> Result<Status, CommandFault>
     ensures { IfOk result (IsPushed ⟦<TimedHandle<'a, R::Stream, R> as Read>⟧.remaining
         ⟦<TimedHandle<'a, R::Stream, R> as Write>⟧.contents J.Entries.Journal
-        ⟦<DryJournal as Journal>⟧ (J.finds storage.now) J.Entries.is_closed manner
+        ⟦<MemoryJournal as Journal>⟧ (J.finds storage.now) J.Entries.is_closed manner
         (found_of words.now)) }
 {
     let to = to(words)?;
     let job = Job::of(rt.alloc(), words)?;
-    match manner.most_leavers {
-        Some(most) => push_within(rt, storage, &job, to, manner.delivery, most),
-        None => push_over(rt, storage, &job, to, manner.delivery),
-    }
+    push_over(rt, storage, &job, to, manner.delivery, manner.most_leavers)
 }
 
-/// Carries the records from a journal that it opens first, and closes.
+/// Opens the journal and reads the files. If these would switch off more than `most` users, it reports that and does
+/// nothing else; otherwise it carries their records. Then it closes the journal.
 pub fn push_over<'a, R: Runtime + Net + AllocGlobal, J: EntryStorage>(
     rt: &'a R,
     storage: &J,
     job: &Job<'_>,
     to: &str,
     delivery: Delivery,
+    most: Option<u32>,
 ) -> Result<Status, CommandFault>
     ensures { PushesOver ⟦<TimedHandle<'a, R::Stream, R> as Read>⟧.remaining
-        ⟦<TimedHandle<'a, R::Stream, R> as Write>⟧.contents J.Entries.Journal (J.finds storage.now)
-        J.Entries.is_closed delivery job.now result }
+        ⟦<TimedHandle<'a, R::Stream, R> as Write>⟧.contents J.Entries.Journal
+        ⟦<MemoryJournal as Journal>⟧ (J.finds storage.now) J.Entries.is_closed delivery job.now most
+        result }
 {
-    let mut connector = open_connector(rt.alloc(), storage)?;
-    let ended = push_from(rt, &mut connector, job, to, delivery);
+    let mut entries = storage.open()?;
+    match approved(rt, &mut entries, job, most) {
+        Ok(Some(sources)) => push_entries(rt, entries, job, &sources, to, delivery),
+        Ok(None) => {
+            entries.close();
+            Ok(Status::Refused)
+        }
+        Err(fault) => {
+            entries.close();
+            Err(fault)
+        }
+    }
+}
+
+/// Carries the records of files from a journal, and closes it.
+fn push_entries<'a, R: Runtime + Net + AllocGlobal, E: StoredEntries>(
+    rt: &'a R,
+    entries: E,
+    job: &Job<'_>,
+    sources: &Sources,
+    to: &str,
+    delivery: Delivery,
+) -> Result<Status, CommandFault>
+    ensures { PushesEntries ⟦<TimedHandle<'a, R::Stream, R> as Read>⟧.remaining
+        ⟦<TimedHandle<'a, R::Stream, R> as Write>⟧.contents E.Journal E.is_closed delivery
+        job.now.service sources.now entries result }
+{
+    match Connector::open(rt.alloc(), entries) {
+        Ok(connector) => push_sources(rt, connector, job, sources, to, delivery),
+        Err((fault, entries)) => {
+            entries.close();
+            Err(CommandFault::from(RunFault::from(fault)))
+        }
+    }
+}
+
+/// Carries the records of files, and closes the journal of the connector.
+fn push_sources<'a, R: Runtime + Net + AllocGlobal, E: StoredEntries>(
+    rt: &'a R,
+    mut connector: Connector<E>,
+    job: &Job<'_>,
+    sources: &Sources,
+    to: &str,
+    delivery: Delivery,
+) -> Result<Status, CommandFault>
+    ensures { PushesSources ⟦<TimedHandle<'a, R::Stream, R> as Read>⟧.remaining
+        ⟦<TimedHandle<'a, R::Stream, R> as Write>⟧.contents E.Journal E.is_closed delivery
+        job.now.service sources.now connector result }
+{
+    let ended = push_known(rt, &mut connector, job, sources, to, delivery);
     close(connector);
     ended
 }
@@ -119,24 +168,8 @@ pub(crate) fn open_connector<J: EntryStorage>(
     }
 }
 
-/// Reads the files, and carries their records.
-fn push_from<'a, R: Runtime + Net + AllocGlobal, J: Journal>(
-    rt: &'a R,
-    connector: &mut Connector<J>,
-    job: &Job<'_>,
-    to: &str,
-    delivery: Delivery,
-) -> Result<Status, CommandFault>
-    ensures { PushesFrom ⟦<TimedHandle<'a, R::Stream, R> as Read>⟧.remaining
-        ⟦<TimedHandle<'a, R::Stream, R> as Write>⟧.contents J.Journal delivery job.now
-        connector.old connector.new result }
-{
-    let sources = job.read_files(rt)?;
-    push_known(rt, connector, job, &sources, to, delivery)
-}
-
 /// Carries the records of files.
-pub(crate) fn push_known<'a, R: Runtime + Net + AllocGlobal, J: Journal>(
+fn push_known<'a, R: Runtime + Net + AllocGlobal, J: Journal>(
     rt: &'a R,
     connector: &mut Connector<J>,
     job: &Job<'_>,

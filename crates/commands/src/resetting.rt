@@ -1,13 +1,12 @@
 //! `reset`: has a journal forget what the provider has shown.
 ghost use Rattle.std.specs.Prelude.{IfOk};
 ghost use Rattle.storage.specs.Resetting.{PrintsReset};
-ghost use Rattle.commands.specs.Running.{EndsShowing, IsReset, IsResetAt};
+ghost use Rattle.commands.specs.Running.{EndsShowing, IsResetAt};
 
 use crate::endings::shown_status;
 use crate::output::{NotedWriter, standard_output};
-use crate::status::{CommandFault, Part, Status, unread_fault};
+use crate::status::{CommandFault, Status};
 use std::alloc::Global;
-use std::fs;
 use std::io::Write;
 use std::rt::Runtime;
 use storage::{EntryStorage, reset_entries};
@@ -21,19 +20,6 @@ pub fn reset<R: Runtime + AllocGlobal, J: EntryStorage>(
     ensures { IfOk result (IsResetAt J.Entries.Journal J.finds journal.entry) }
 {
     let journal = journal.ok_or(CommandFault::File)?;
-    match fs::metadata(rt, journal.name()) {
-        Ok(_metadata) => reset_there(rt, journal),
-        Err(error) => Err(unread_fault(Part::File, error)),
-    }
-}
-
-/// The same for a journal whose file is there.
-fn reset_there<R: Runtime + AllocGlobal, J: EntryStorage>(
-    rt: &R,
-    journal: &J,
-) -> Result<Status, CommandFault>
-    ensures { IfOk result (IsReset J.Entries.Journal (J.finds journal.now)) }
-{
     let mut out = standard_output(rt)?;
     print_reset(rt.alloc(), journal, &mut out)
 }

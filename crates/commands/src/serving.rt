@@ -1,5 +1,6 @@
 //! `serve`: connections to a socket, answered by one provider, as their requests are whole.
-ghost use Rattle.std.specs.Prelude.{◌≡◌, IfOk};
+ghost use Rattle.std.specs.Duration.{as_nanos};
+ghost use Rattle.std.specs.Prelude.{◌≡◌, ◌*◌, IfOk};
 ghost use Rattle.std.specs.Result.{result_and};
 ghost use Rattle.clap.specs.Matches.{found_of};
 ghost use Rattle.commands.specs.Statuses.{outcome_status};
@@ -8,7 +9,7 @@ ghost use Rattle.commands.specs.Listening.{IsServed, ServesEmpty, ServesRows, Se
 use crate::endings::outcome_status;
 use crate::status::{CommandFault, Status, listen_fault};
 use crate::stored::serve_stored;
-use crate::words::{address, base, requests};
+use crate::words::{address, base, longest_search, requests};
 use clap::ArgMatches;
 use connection::{AheadReader, ConnectionFault, LateWriter, Listen, Sockets, serve_from_memory};
 use provider_core::{MemoryRegistry, Registry};
@@ -31,34 +32,37 @@ pub fn serve<'a, R: Runtime + Net + AllocGlobal, K: RowStorage>(
 ) -> Result<Status, CommandFault>
     ensures { IfOk result
         (IsServed ⟦<Sockets<'a, R::Listener, R> as Listen>⟧.waiting
-        ⟦<AheadReader<PromptStream<'a, SharedStream<R::Stream>, R>> as Read>⟧.remaining
+        ⟦<PromptStream<'a, AheadReader<SharedStream<R::Stream>>, R> as Read>⟧.remaining
         ⟦<LateWriter<PromptStream<'a, SharedStream<R::Stream>, R>> as Write>⟧.contents
+        (λ sockets. as_nanos sockets.search_times.longest)
         K.Rows.Registry K.finds ⟦<MemoryRegistry as Registry>⟧ (found_of words.now) store.entry) }
 {
     let address = address(words)?;
     let requests = requests(words)?;
+    let seconds = longest_search(words)?;
     let base = base(rt.alloc(), words)?;
     match store {
-        Some(storage) => serve_from_file(rt, address, requests, &base, storage),
-        None => serve_empty(rt, address, requests, &base),
+        Some(storage) => serve_from_file(rt, address, requests, seconds, &base, storage),
+        None => serve_empty(rt, address, requests, seconds, &base),
     }
 }
 
 /// Listens, and serves `requests` connections from a provider in memory that starts empty.
-#[tactic(auto, using(crate::proofs::RunLemmas::memory_served))]
 fn serve_empty<'a, R: Runtime + Net + AllocGlobal>(
     rt: &'a R,
     address: &str,
-    requests: u32,
+    requests: u64,
+    seconds: u32,
     base: &Base,
 ) -> Result<Status, CommandFault>
     ensures { IfOk result
         (ServesEmpty ⟦<Sockets<'a, R::Listener, R> as Listen>⟧.waiting
-        ⟦<AheadReader<PromptStream<'a, SharedStream<R::Stream>, R>> as Read>⟧.remaining
+        ⟦<PromptStream<'a, AheadReader<SharedStream<R::Stream>>, R> as Read>⟧.remaining
         ⟦<LateWriter<PromptStream<'a, SharedStream<R::Stream>, R>> as Write>⟧.contents
-        ⟦<MemoryRegistry as Registry>⟧ base.now requests) }
+        (λ sockets. as_nanos sockets.search_times.longest)
+        ⟦<MemoryRegistry as Registry>⟧ base.now requests (seconds * 1_000_000_000)) }
 {
-    let mut sockets = sockets(rt, address)?;
+    let mut sockets = sockets(rt, address, seconds)?;
     let outcome = serve_from_memory(rt, rt.alloc(), &mut sockets, requests, base);
     let finished = sockets.finish(rt);
     Ok(status_after(outcome, finished))
@@ -68,18 +72,20 @@ fn serve_empty<'a, R: Runtime + Net + AllocGlobal>(
 fn serve_from_file<'a, R: Runtime + Net + AllocGlobal, K: RowStorage>(
     rt: &'a R,
     address: &str,
-    requests: u32,
+    requests: u64,
+    seconds: u32,
     base: &Base,
     storage: &K,
 ) -> Result<Status, CommandFault>
     ensures { IfOk result
         (ServesStored ⟦<Sockets<'a, R::Listener, R> as Listen>⟧.waiting
-        ⟦<AheadReader<PromptStream<'a, SharedStream<R::Stream>, R>> as Read>⟧.remaining
+        ⟦<PromptStream<'a, AheadReader<SharedStream<R::Stream>>, R> as Read>⟧.remaining
         ⟦<LateWriter<PromptStream<'a, SharedStream<R::Stream>, R>> as Write>⟧.contents
-        K.Rows.Registry (K.finds storage.now) base.now requests) }
+        (λ sockets. as_nanos sockets.search_times.longest)
+        K.Rows.Registry (K.finds storage.now) base.now requests (seconds * 1_000_000_000)) }
 {
     let rows = storage.open()?;
-    match sockets(rt, address) {
+    match sockets(rt, address, seconds) {
         Ok(mut sockets) => serve_rows(rt, storage, rows, &mut sockets, requests, base),
         Err(fault) => {
             rows.close();
@@ -95,14 +101,16 @@ fn serve_rows<'a, R: Runtime + Net + AllocGlobal, K: RowStorage>(
     storage: &K,
     rows: K::Rows,
     sockets: &mut Sockets<'a, R::Listener, R>,
-    requests: u32,
+    requests: u64,
     base: &Base,
 ) -> Result<Status, CommandFault>
     ensures { IfOk result
         (ServesRows ⟦<Sockets<'a, R::Listener, R> as Listen>⟧.waiting
-        ⟦<AheadReader<PromptStream<'a, SharedStream<R::Stream>, R>> as Read>⟧.remaining
+        ⟦<PromptStream<'a, AheadReader<SharedStream<R::Stream>>, R> as Read>⟧.remaining
         ⟦<LateWriter<PromptStream<'a, SharedStream<R::Stream>, R>> as Write>⟧.contents
-        K.Rows.Registry (K.finds storage.now) base.now rows requests) }
+        (λ sockets. as_nanos sockets.search_times.longest)
+        K.Rows.Registry (K.finds storage.now) base.now rows requests
+        (as_nanos sockets.old.search_times.longest)) }
 {
     match serve_stored(rt, rt.alloc(), storage, rows, sockets, requests, base) {
         Ok(outcome) => {
@@ -126,20 +134,26 @@ fn status_after(
     outcome_status(outcome.and(finished))
 }
 
-/// The connections of an address, each with a deadline.
+/// The connections of an address, each with a deadline, and each search with so many seconds. It prints the address
+/// with its port.
 fn sockets<'a, R: Runtime + Net + AllocGlobal>(
     rt: &'a R,
     address: &str,
-) -> Result<Sockets<'a, R::Listener, R>, CommandFault> {
+    seconds: u32,
+) -> Result<Sockets<'a, R::Listener, R>, CommandFault>
+    ensures { IfOk result (λ sockets. as_nanos sockets.search_times.longest
+        ≡ seconds * 1_000_000_000) }
+{
     let limit = Duration::from_secs(CONNECTION_SECONDS);
-    Ok(Sockets::new(rt.alloc(), listen(rt, address)?, rt, limit))
-}
-
-/// Listens on an address, and prints the address with its port.
-fn listen<R: Runtime + Net>(rt: &R, address: &str) -> Result<R::Listener, CommandFault> {
+    let longest_search = Duration::from_secs(u64::from(seconds));
     let (listener, taken) = bound(rt, address).map_err(|error| listen_fault(error))?;
-    println!(rt; "listening {taken}")?;
-    Ok(listener)
+    match Sockets::new(rt.alloc(), rt, listener, rt, limit, longest_search) {
+        Ok(sockets) => {
+            println!(rt; "listening {taken}")?;
+            Ok(sockets)
+        }
+        Err(error) => Err(listen_fault(error)),
+    }
 }
 
 /// A listener on an address, and the address with its port.

@@ -8,7 +8,7 @@ ghost use Rattle.commands.specs.declared.status.CommandFault.TheVariants.{Memory
 use crate::looping::LoopFault;
 use crate::manners::MOST_LEAVERS;
 use crate::simulating::EventsFault;
-use crate::words::MOST_REQUESTS;
+use crate::words::{MOST_REQUESTS, MOST_SEARCH_SECONDS};
 use connection::ConnectionFault;
 use mapping::WriteFault;
 use provider_store::RegistryOpenFault;
@@ -85,6 +85,8 @@ pub enum CommandFault {
     To,
     #[error("error: --requests is 1 to {most}", most = MOST_REQUESTS)]
     Requests,
+    #[error("error: --longest-search is 1 to {most} seconds", most = MOST_SEARCH_SECONDS)]
+    LongestSearch,
     #[error("error: --most-leavers is 0 to {most}", most = MOST_LEAVERS)]
     MostLeavers,
     #[error("error: --streams is 1 to {most}", most = MOST_STREAMS)]
@@ -117,6 +119,9 @@ pub enum CommandFault {
     /// This file couldn't be read; with the system's error.
     #[error("file fault")]
     Unread(Part, io::Error),
+    /// This store or journal isn't there, and the command makes none.
+    #[error("file fault")]
+    Missing(Part),
     /// A line couldn't be written; with the system's error.
     #[error("file fault")]
     Output(io::Error),
@@ -141,7 +146,8 @@ impl CommandFault {
         match self {
             CommandFault::Words | CommandFault::Subcommand => Status::Usage,
             CommandFault::Base | CommandFault::Listen | CommandFault::To => Status::Usage,
-            CommandFault::Requests | CommandFault::MostLeavers => Status::Usage,
+            CommandFault::Requests | CommandFault::LongestSearch => Status::Usage,
+            CommandFault::MostLeavers => Status::Usage,
             CommandFault::Streams | CommandFault::Show => Status::Usage,
             CommandFault::Events(_) => Status::Usage,
             CommandFault::Users(SourceFault::Header) => Status::Refused,
@@ -151,6 +157,7 @@ impl CommandFault {
             CommandFault::StoreFile(_) | CommandFault::JournalFile(_) => Status::Fault,
             CommandFault::OlderJournal => Status::Fault,
             CommandFault::File | CommandFault::Unread(_, _) => Status::Fault,
+            CommandFault::Missing(_) => Status::Fault,
             CommandFault::Output(_) | CommandFault::Connection(_) => Status::Fault,
             CommandFault::Unopened(_) | CommandFault::Run(_) => Status::Fault,
             CommandFault::Memory => Status::Fault,
@@ -162,13 +169,11 @@ impl CommandFault {
         ensures { result ≡ part_of self }
     {
         match self {
-            CommandFault::Unread(part, _) => Some(part),
+            CommandFault::Unread(part, _) | CommandFault::Missing(part) => Some(part),
             CommandFault::Output(_) => Some(Part::Output),
             CommandFault::Unopened(_) => Some(Part::Listening),
-            CommandFault::StoreFile(RegistryOpenFault::Store) => Some(Part::Store),
-            CommandFault::JournalFile(journal_store::JournalOpenFault::Store) => Some(
-                Part::Journal,
-            ),
+            CommandFault::StoreFile(_) => Some(Part::Store),
+            CommandFault::JournalFile(_) => Some(Part::Journal),
             CommandFault::Run(RunFault::Connection(_)) => Some(Part::Provider),
             CommandFault::Run(RunFault::Journal) => Some(Part::Journal),
             _ => None,
@@ -395,6 +400,8 @@ impl From<ShowFault> for CommandFault {
         match fault {
             ShowFault::Store(fault) => CommandFault::from(fault),
             ShowFault::Journal(fault) => CommandFault::from(fault),
+            ShowFault::NoStore => CommandFault::Missing(Part::Store),
+            ShowFault::NoJournal => CommandFault::Missing(Part::Journal),
             ShowFault::Memory => CommandFault::Memory,
             ShowFault::Output => CommandFault::File,
         }

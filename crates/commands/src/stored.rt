@@ -43,7 +43,7 @@ pub fn serve_stored<K: RowStorage, L: Listen>(
     storage: &K,
     rows: K::Rows,
     listener: &mut L,
-    count: u32,
+    count: u64,
     base: &Base,
 ) -> Result<Result<(), ConnectionFault>, RegistryOpenFault>
     ensures served { IfOk result (λ outcome. (last : K.Rows)

@@ -4,18 +4,22 @@ ghost use Rattle.clap.specs.Matches.{first_value, found_of, one_text};
 ghost use Rattle.scim_key.specs.Outcome.{Gives};
 ghost use Rattle.commands.specs.Addresses.{GivesAddress, text_in};
 ghost use Rattle.commands.specs.Statuses.{base_fault, words_status};
-ghost use Rattle.commands.specs.Words.{GivesCount, given_text, wanted, wanted_base};
-ghost use Rattle.commands.specs.declared.status.CommandFault.TheVariants.{File, Listen, Memory, Requests, To};
+ghost use Rattle.commands.specs.Words.{GivesCount, GivesLongestSearch, GivesRequests, given_text, wanted, wanted_base};
+ghost use Rattle.commands.specs.declared.status.CommandFault.TheVariants.{File, Listen, Memory, To};
 
 use crate::addresses::is_address;
 use crate::status::{CommandFault, Status};
 use clap::ArgMatches;
 use clap::error::ErrorKind;
+use connection::SEARCH_SECONDS;
 use scim_key::{Base, NameFault};
 use std::alloc::Global;
 
-/// The most connections that one run serves.
+/// The most requests that one run answers if it is told how many.
 pub const MOST_REQUESTS: u32 = 1_000_000;
+
+/// The most seconds that a search may be given.
+pub const MOST_SEARCH_SECONDS: u32 = 3_600;
 
 /// The base in the arguments, or the default.
 pub fn base(alloc: Global, matches: &ArgMatches<'_>) -> Result<Base, CommandFault>
@@ -99,12 +103,34 @@ fn address_in(given: Option<&str>, least: u16, wrong: CommandFault) -> Result<&s
     }
 }
 
-/// The number of connections in the arguments.
-pub fn requests(matches: &ArgMatches<'_>) -> Result<u32, CommandFault>
-    ensures { GivesCount MOST_REQUESTS Requests
+/// How many requests are served, from the arguments. Without that, none is the last.
+pub fn requests(matches: &ArgMatches<'_>) -> Result<u64, CommandFault>
+    ensures { GivesRequests (first_value (found_of matches.now) (codes "requests"))
         (one_text (found_of matches.now) (codes "requests")) result }
 {
-    counted(matches, "requests", MOST_REQUESTS, CommandFault::Requests)
+    match matches.get_str("requests") {
+        Some(_) => {
+            let count = counted(matches, "requests", MOST_REQUESTS, CommandFault::Requests)?;
+            Ok(u64::from(count))
+        }
+        None => Ok(u64::MAX),
+    }
+}
+
+/// How many seconds a search may take, from the arguments, or the default.
+pub fn longest_search(matches: &ArgMatches<'_>) -> Result<u32, CommandFault>
+    ensures { GivesLongestSearch (first_value (found_of matches.now) (codes "longest-search"))
+        (one_text (found_of matches.now) (codes "longest-search")) result }
+{
+    match matches.get_str("longest-search") {
+        Some(_) => counted(
+            matches,
+            "longest-search",
+            MOST_SEARCH_SECONDS,
+            CommandFault::LongestSearch,
+        ),
+        None => Ok(SEARCH_SECONDS),
+    }
 }
 
 /// The number of this argument, from 1 to the most, or what is wrong with the arguments.

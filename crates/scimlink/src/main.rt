@@ -12,10 +12,13 @@ use clap::ArgMatches;
 use commands::words::{journal, store};
 use commands::{CommandFault, Status, told};
 use options::{events_help, program};
+use std::alloc::Global;
 use std::net::Net;
 use std::process::ExitCode;
 use std::rt::{HostRuntime, Runtime};
-use storage::{DatabaseFile, DatabaseHost, EntryStorage, JournalFile, RowStorage, StoreFile};
+use storage::{
+    DatabaseFile, DatabaseHost, EntryStorage, JournalFile, Place, RowStorage, StoreFile,
+};
 
 fn main(rt: HostRuntime) -> ExitCode {
     ExitCode::from(run(&rt).code())
@@ -47,13 +50,40 @@ fn over_files<H: DatabaseHost + Net>(
     matches: &ArgMatches<'_>,
 ) -> Result<Status, CommandFault> {
     let (command, words) = matches.subcommand().ok_or(CommandFault::Subcommand)?;
-    let store = store(words).map(|path| StoreFile {
-        file: DatabaseFile::new(rt, path),
-    });
-    let journal = journal(words).map(|path| JournalFile {
-        file: DatabaseFile::new(rt, path),
-    });
-    Ok(ended(rt, command, words, store.as_ref(), journal.as_ref()))
+    let store = place(rt.alloc(), store(words))?;
+    let journal = place(rt.alloc(), journal(words))?;
+    Ok(over_places(rt, command, words, &store, &journal))
+}
+
+/// The place at a path, if one is named.
+fn place(alloc: Global, path: Option<&str>) -> Result<Option<Place<'_>>, CommandFault> {
+    match path {
+        Some(path) => Ok(Some(Place::new(alloc, path)?)),
+        None => Ok(None),
+    }
+}
+
+/// Carries out a command over the files at these places.
+fn over_places<'a, H: DatabaseHost + Net>(
+    rt: &'a H,
+    command: &str,
+    words: &ArgMatches<'_>,
+    store: &'a Option<Place<'a>>,
+    journal: &'a Option<Place<'a>>,
+) -> Status {
+    let store = match store {
+        Some(place) => Some(StoreFile {
+            file: DatabaseFile::new(rt, place),
+        }),
+        None => None,
+    };
+    let journal = match journal {
+        Some(place) => Some(JournalFile {
+            file: DatabaseFile::new(rt, place),
+        }),
+        None => None,
+    };
+    ended(rt, command, words, store.as_ref(), journal.as_ref())
 }
 
 /// Carries out a command. It reports a fault on standard error with its cause.

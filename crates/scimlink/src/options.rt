@@ -183,7 +183,7 @@ static COMMANDS: &[CommandText] = &[
     },
     CommandText {
         name: "serve",
-        about: "serves HTTP connections to an address, one after another",
+        about: "answers HTTP requests to an address, one after another",
         options: &[
             OptionText {
                 name: "listen",
@@ -196,8 +196,16 @@ static COMMANDS: &[CommandText] = &[
             OptionText {
                 name: "requests",
                 value: Value::Count,
-                rule: Rule::Required,
-                help: Help::Text("how many connections to serve"),
+                rule: Rule::Optional,
+                help: Help::Text(
+                    "how many requests to answer; without it, scimlink serves until it is ended",
+                ),
+            },
+            OptionText {
+                name: "longest-search",
+                value: Value::Count,
+                rule: Rule::Optional,
+                help: Help::Text("how many seconds a search may take before it is stopped"),
             },
             BASE,
             STORE,

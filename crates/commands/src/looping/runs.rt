@@ -8,7 +8,7 @@ use crate::looping::faults::{LoopFault, unheard, unprinted};
 use crate::looping::own::{OwnProvider, OwnReader, OwnStreams};
 use crate::looping::reports::Reports;
 use crate::looping::views::print_views;
-use connection::{Listen, Sockets};
+use connection::{Listen, SEARCH_SECONDS, Sockets};
 use connector_core::Connector;
 use journal_core::Journal;
 use provider_core::Provider;
@@ -170,14 +170,19 @@ fn carry_to<
 }
 
 /// The connections of a free port, each with its deadline, and the port's address.
-fn listen<'a, N: Net + Clock>(
+fn listen<'a, N: Net + Clock + Eprint>(
     rt: &'a N,
     alloc: Global,
 ) -> Result<(Sockets<'a, N::Listener, N>, String), RunFault> {
     let listener = TcpListener::bind(rt, OWN_ADDRESS).map_err(unheard)?;
     let address = address_of(alloc, &listener)?;
     let limit = Duration::from_secs(CONNECTION_SECONDS);
-    Ok((Sockets::new(alloc, listener, rt, limit), address))
+    let longest_search = Duration::from_secs(u64::from(SEARCH_SECONDS));
+    let mut sockets = Sockets::new(alloc, rt, listener, rt, limit, longest_search).map_err(
+        unheard,
+    )?;
+    sockets.silence();
+    Ok((sockets, address))
 }
 
 /// The address of a listener, HOST:PORT.

@@ -6,7 +6,7 @@ use Rattle.commands.proofs.images.print_next.Goals as goal
 pub returns-then-not-branch-clause-prints : goal.returns-then-not-branch-clause-prints
 returns-then-not-branch-clause-prints g c =
     let after = c.read_next.new.self in
-    (refl, λ records left. takes_none c.in_ok-read_next.field-0 after.fields after.remaining after.state records c.if-not-branch.true (c.in_ok-read_next.ensures.records records left))
+    (refl, λ records left. takes_none c.in_ok-read_next.field-0 after.fields after.config after.remaining after.state records c.if-not-branch.true (c.in_ok-read_next.ensures.records records left))
 
 pub returns-clause-prints : goal.returns-clause-prints
 returns-clause-prints g c =

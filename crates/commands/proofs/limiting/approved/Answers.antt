@@ -1,7 +1,10 @@
-use Rattle.std.proofs.Common.{◌<◌, rules}
+use Rattle.std.proofs.Common.{refl}
+use Rattle.commands.proofs.RunLemmas.{if_ok}
 use Rattle.commands.proofs.limiting.approved.Goals as goal
 
-pub returns-in-Ok-clause-approves : goal.returns-in-Ok-clause-approves
-returns-in-Ok-clause-approves g c =
-    let more : c.args.most < c.in-Ok.count = search rules in
-    (c.in_ok-sources.sources, c.in-Ok.count, record { read = c.in_ok-sources.ensures; counted = c.in-Ok.ensures.counts }, more)
+pub returns-in-Some-clause-approves : goal.returns-in-Some-clause-approves
+returns-in-Some-clause-approves g c =
+    rw c.in-Some.is (if_ok c.within.result (λ kept is. (c.in_ok-sources.sources, c.in_ok-sources.ensures, is)) c.within.ensures.within)
+
+pub returns-in-None-clause-approves : goal.returns-in-None-clause-approves
+returns-in-None-clause-approves g c = rw c.in-None.is (c.in_ok-sources.sources, c.in_ok-sources.ensures, refl)

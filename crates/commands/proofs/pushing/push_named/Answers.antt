@@ -1,8 +1,5 @@
 use Rattle.commands.proofs.RunLemmas.{pushed}
 use Rattle.commands.proofs.pushing.push_named.Goals as goal
 
-pub returns-in-Some : goal.returns-in-Some
-returns-in-Some g c = pushed _ _ _ _ _ _ c.args.manner _ c.in_ok-job.job c.push_within.result c.in_ok-job.ensures (rw c.in-Some.is c.push_within.ensures)
-
 pub returns : goal.returns
-returns g c = pushed _ _ _ _ _ _ c.args.manner _ c.in_ok-job.job c.push_over.result c.in_ok-job.ensures (rw c.in-None.is c.push_over.ensures)
+returns g c = pushed _ _ _ _ _ _ c.args.manner _ c.in_ok-job.job c.push_over.result c.in_ok-job.ensures c.push_over.ensures

@@ -1,5 +1,5 @@
 use Rattle.std.proofs.Common.{inl}
-use Rattle.commands.proofs.limiting.push_entries.Goals as goal
+use Rattle.commands.proofs.pushing.push_entries.Goals as goal
 
 pub returns-in-Ok : goal.returns-in-Ok
 returns-in-Ok g c =
