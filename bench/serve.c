@@ -1,12 +1,13 @@
 #define _GNU_SOURCE
-/* Both ends of a measurement, for bench/serve.py, bench/slow.py and bench/streams.py:
+/* Both ends of a measurement, for bench/serve.py, bench/slow.py, bench/floods.py and bench/streams.py:
  *   serve load PORT CLIENTS COUNT STEP AMONG STATUS REQUEST
  *       asks so many times from so many clients at once, a connection each, wants this status each
  *       time, and prints the seconds. The n-th asking has the number (n * STEP) % AMONG; eight `@` in
  *       the request stand for it, eight `#` for the one after it, and twelve `$` for that in hexadecimal.
- *   serve wait PORT CLIENTS SECONDS STATUS REQUEST
- *       asks for so many seconds from so many clients, and prints how many were answered, and the
- *       milliseconds that 99 of 100 and that all of them took at most.
+ *   serve wait PORT CLIENTS SECONDS STATUS REQUEST FROM PATIENCE PAUSE
+ *       asks for so many seconds from so many clients at the address FROM, each PAUSE microseconds after its last
+ *       answer, and prints how many were answered, how many weren't within PATIENCE seconds or otherwise, and the
+ *       milliseconds that half of the answered, that 99 of 100 and that all of them took at most.
  *   serve limit COUNT ANSWER [STORE insert|update AMONG]
  *       prints a port, and answers so many connections by the same bytes: what accepting, reading,
  *       writing and closing alone take. With a store, the row of a user is put or changed by SQLite
@@ -70,21 +71,45 @@ static void put(const struct text *form, char *request, const char *marks, const
     for (; (mark = memmem(mark, form->bytes + form->length - mark, marks, wide)); mark += wide) memcpy(request + (mark - form->bytes), digits, wide);
 }
 
-static int connected(void) {
+static const char *own_address;
+static struct timeval patience;
+
+/* A stream to the port, from the own address, if there is one; each call on it fails after the patience. It is -1 if
+ * it can't be set up. */
+static int connection(void) {
     struct sockaddr_in to = {.sin_family = AF_INET, .sin_port = htons(port), .sin_addr.s_addr = htonl(INADDR_LOOPBACK)};
-    int peer = socket(AF_INET, SOCK_STREAM, 0);
-    if (connect(peer, (struct sockaddr *)&to, sizeof to)) fail(3);
+    struct sockaddr_in own = {.sin_family = AF_INET};
+    int one = 1, peer = socket(AF_INET, SOCK_STREAM, 0);
+    if (own_address) {
+        own.sin_addr.s_addr = inet_addr(own_address);
+        setsockopt(peer, IPPROTO_IP, IP_BIND_ADDRESS_NO_PORT, &one, sizeof one);
+        setsockopt(peer, SOL_SOCKET, SO_RCVTIMEO, &patience, sizeof patience);
+        setsockopt(peer, SOL_SOCKET, SO_SNDTIMEO, &patience, sizeof patience);
+        if (bind(peer, (struct sockaddr *)&own, sizeof own)) fail(3);
+    }
+    if (!connect(peer, (struct sockaddr *)&to, sizeof to)) return peer;
+    close(peer);
+    return -1;
+}
+
+static int connected(void) {
+    int peer = connection();
+    if (peer < 0) fail(3);
     return peer;
+}
+
+/* Asks on this connection, and closes it: whether an answer with this status came. */
+static int is_answered(int peer, const char *request, size_t length, char *taken, size_t *got, const char *wanted) {
+    ssize_t more = send(peer, request, length, MSG_NOSIGNAL) == (ssize_t)length ? 0 : -1;
+    for (*got = 0; more >= 0 && (more = read(peer, taken + *got, ANSWER_ROOM - *got)) > 0;) *got += more;
+    close(peer);
+    return !more && *got >= 12 && !memcmp(taken + 9, wanted, 3);
 }
 
 /* Asks on a connection of its own, and wants an answer with this status. */
 static void ask(const char *request, size_t length, char *taken, const char *wanted) {
-    int peer = connected();
-    if (write(peer, request, length) != (ssize_t)length) fail(3);
-    size_t got = 0;
-    for (ssize_t more; (more = read(peer, taken + got, ANSWER_ROOM - got)) > 0;) got += more;
-    close(peer);
-    if (got < 12 || memcmp(taken + 9, wanted, 3)) {
+    size_t got;
+    if (!is_answered(connected(), request, length, taken, &got, wanted)) {
         fprintf(stderr, "%.*s\nis answered by %.*s\n", (int)length, request, (int)got, taken);
         exit(4);
     }
@@ -119,17 +144,21 @@ enum { MOST_WAITS = 4000000 };
 
 /* How long each answer took, of all clients. */
 static float *waits;
-static int answered;
+static int answered, unanswered;
 static double until;
+static int break_time;
 
 static void *waiting_client(void *unused) {
     char *taken = malloc(ANSWER_ROOM);
     if (!taken) fail(2);
-    for (double begin = seconds(), end; begin < until; begin = end) {
-        ask(text.bytes, text.length, taken, status);
+    for (double begin, end; (begin = seconds()) < until;) {
+        size_t got;
+        int peer = connection(), is_lost = peer < 0 || !is_answered(peer, text.bytes, text.length, taken, &got, status);
         end = seconds();
-        int place = __atomic_fetch_add(&answered, 1, __ATOMIC_RELAXED);
-        if (place < MOST_WAITS) waits[place] = (end - begin) * 1e3;
+        int place = __atomic_fetch_add(is_lost ? &unanswered : &answered, 1, __ATOMIC_RELAXED);
+        if (!is_lost && place < MOST_WAITS) waits[place] = (end - begin) * 1e3;
+        /* (one that is refused at once comes again a moment later) */
+        if (is_lost || break_time) usleep(is_lost ? 1000 : break_time);
     }
     free(taken);
     return unused;
@@ -149,7 +178,8 @@ static int waiting(double length) {
     for (int n = 0; n < clients; n++) pthread_join(threads[n], 0);
     if (answered > MOST_WAITS) answered = MOST_WAITS;
     qsort(waits, answered, sizeof *waits, is_longer);
-    printf("%d %.3f %.3f\n", answered, waits[answered * 99L / 100], waits[answered - 1]);
+    printf("%d %d %.3f %.3f %.3f\n", answered, unanswered, answered ? waits[answered / 2] : 0,
+           answered ? waits[answered * 99L / 100] : 0, answered ? waits[answered - 1] : 0);
     return 0;
 }
 
@@ -294,8 +324,9 @@ int main(int words, char **word) {
         take_text(&text, word[8]);
         return load();
     }
-    if (words == 7 && !strcmp(word[1], "wait")) {
+    if (words == 10 && !strcmp(word[1], "wait")) {
         port = atoi(word[2]), clients = atoi(word[3]), status = word[5];
+        own_address = word[7], patience.tv_sec = atoi(word[8]), break_time = atoi(word[9]);
         take_text(&text, word[6]);
         return waiting(atof(word[4]));
     }

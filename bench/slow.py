@@ -41,13 +41,14 @@ def creation(number):
 
 
 class Server:
-    """A run of `serve` with some users."""
+    """A run of `serve` with some users, or with those of a store."""
 
-    def __init__(self):
+    def __init__(self, store=None):
         words = [program(), "serve", "--listen", "127.0.0.1:0", "--requests", "1000000"]
+        words += ["--store", store] if store else []
         self.run = subprocess.Popen(words, stdout=subprocess.PIPE, stderr=subprocess.DEVNULL, text=True)
         self.port = int(self.run.stdout.readline().rpartition(":")[2])
-        for number in range(USERS):
+        for number in range(0 if store else USERS):
             with self.connect() as stream:
                 stream.sendall(creation(number))
                 if not stream.recv(4096).startswith(b"HTTP/1.1 201"):
@@ -137,9 +138,11 @@ class Bench:
 
     def honest(self, seconds):
         """Asks: answers a second, and the milliseconds that 99 of 100 and all took at most."""
-        words = [self.tool, "wait", self.server.port, HONEST, seconds, 200, self.request]
+        words = [self.tool, "wait", self.server.port, HONEST, seconds, 200, self.request, "127.0.0.1", LIMIT, 0]
         ran = subprocess.run([str(word) for word in words], check=True, stdout=subprocess.PIPE, text=True)
-        count, most, longest = ran.stdout.split()
+        count, lost, _, most, longest = ran.stdout.split()
+        if int(lost):
+            sys.exit(f"{lost} weren't answered")
         return int(count) / seconds, float(most), float(longest)
 
     def measure(self):

@@ -10,62 +10,17 @@ of that beside them; the median, and the slowest of 100 and of all, in milliseco
 within 5 s. With --before, the same follows for the program of an earlier version, in the same run. It judges nothing.
 """
 import argparse
-import multiprocessing
 import os
-import resource
+import pathlib
 import socket
+import tempfile
 import time
 
+from floods import Flood, build, take_handles, trickles
 from slow import FIND, Server
 
 CROWDS, PACES = (256, 600, 2_000), (30, 60, 95, 150)
 PATIENCE = 5
-# How many files and sockets this process and `serve` may each have open, if the system lets them
-MOST_HANDLES = 5_000
-# 90 % of a head of 16 KB
-MOST_OF_A_HEAD = b"GET /v2/Users HTTP/1.1\r\nHost: h\r\n" + b"A: " + b"x" * 14_700
-
-
-class Crowd:
-    """Clients that trickle, for as long as its context lasts, in a process of their own."""
-
-    def __init__(self, port, count, pace):
-        self.port, self.count, self.pace = port, count, pace
-        self.is_over = multiprocessing.Event()
-        self.process = multiprocessing.Process(target=self.trickle, daemon=True)
-
-    def __enter__(self):
-        self.process.start()
-        return self
-
-    def __exit__(self, *_):
-        self.is_over.set()
-        self.process.join()
-
-    def begin(self):
-        """A new connection; it is set up while others go on."""
-        stream = socket.socket()
-        stream.setblocking(False)
-        stream.connect_ex(("127.0.0.1", self.port))
-        return stream
-
-    def trickle(self):
-        streams = [self.begin() for _ in range(self.count)]
-        # what each sends next
-        texts = [MOST_OF_A_HEAD if place % 2 else b"G" for place in range(self.count)]
-        while not self.is_over.wait(self.pace / 1000):
-            for place, stream in enumerate(streams):
-                try:
-                    stream.send(texts[place])
-                    texts[place] = b"G"
-                except BlockingIOError:
-                    continue
-                except OSError:
-                    stream.close()
-                    streams[place] = self.begin()
-                    texts[place] = MOST_OF_A_HEAD if place % 2 else b"G"
-        for stream in streams:
-            stream.close()
 
 
 def ask(port):
@@ -92,12 +47,11 @@ def answers(port, seconds):
     return sorted(times), lost
 
 
-def measured(count, pace, seconds):
+def measured(room, count, pace, seconds):
     """What a client meets beside so many that trickle."""
     server = Server()
     alone = len(answers(server.port, 1)[0])
-    with Crowd(server.port, count, pace):
-        time.sleep(1)
+    with Flood(room, server.port, trickles(count, pace), seconds):
         times, lost = answers(server.port, seconds)
     server.run.kill()
     server.run.wait()
@@ -111,19 +65,19 @@ def main():
     parser.add_argument("--seconds", type=int, default=5, help="how long each line takes")
     parser.add_argument("--before", help="a program of an earlier version")
     given = parser.parse_args()
-    soft, hard = resource.getrlimit(resource.RLIMIT_NOFILE)
-    wanted = max(soft, MOST_HANDLES)
-    resource.setrlimit(resource.RLIMIT_NOFILE, (wanted if hard == resource.RLIM_INFINITY else min(wanted, hard), hard))
+    take_handles()
     print("clients pace" + " | alone part median 99th slowest unanswered" * (2 if given.before else 1), flush=True)
-    for count in CROWDS:
-        for pace in PACES:
-            parts = [measured(count, pace, given.seconds)]
-            if given.before:
-                now = os.environ.get("PROGRAM")
-                os.environ["PROGRAM"] = given.before
-                parts.append(measured(count, pace, given.seconds))
-                os.environ.pop("PROGRAM") if now is None else os.environ.update(PROGRAM=now)
-            print(f"{count} {pace}", *parts, sep=" | ", flush=True)
+    with tempfile.TemporaryDirectory(prefix="trickle-") as folder:
+        room = build(pathlib.Path(folder))
+        for count in CROWDS:
+            for pace in PACES:
+                parts = [measured(room, count, pace, given.seconds)]
+                if given.before:
+                    now = os.environ.get("PROGRAM")
+                    os.environ["PROGRAM"] = given.before
+                    parts.append(measured(room, count, pace, given.seconds))
+                    os.environ.pop("PROGRAM") if now is None else os.environ.update(PROGRAM=now)
+                print(f"{count} {pace}", *parts, sep=" | ", flush=True)
 
 
 if __name__ == "__main__":

@@ -61,6 +61,35 @@ class Shim:
         return struct.unpack(f"{len(KINDS)}Q", self.counts)[KINDS.index(kind)]
 
 
+class Number:
+    """A run that shares a number with the test, by this word of tests/shim.c."""
+
+    def __init__(self, shim, folder, word):
+        handle, name = tempfile.mkstemp(dir=folder, prefix="number-")
+        os.ftruncate(handle, 8)
+        self.bytes = mmap.mmap(handle, 8)
+        os.close(handle)
+        self.options = {"env": ENVIRONMENT | {word: name, "LD_PRELOAD": str(shim)}}
+
+    @property
+    def value(self):
+        return struct.unpack("q", self.bytes)[0]
+
+    @value.setter
+    def value(self, number):
+        self.bytes[:] = struct.pack("q", number)
+
+
+class Clock(Number):
+    """A run whose steady clock can be set ahead."""
+
+    def __init__(self, shim, folder):
+        super().__init__(shim, folder, "CLOCK")
+
+    def set_ahead(self, seconds):
+        self.value = seconds * 10**9
+
+
 class Script(typing.NamedTuple):
     """How bytes pass a stream: at most `step` by a call. Each event is after how many bytes it comes, at how many
     calls, and the error number with which these fail; or 0, and they pass no byte."""

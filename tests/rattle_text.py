@@ -63,6 +63,10 @@ class Block:
         return block
 
 
+def is_comma_of_body(kind, block):
+    return kind == "," and block and block.within("fn", "enum")
+
+
 class Source:
     """A file of Rattle. Its code is divided into parts, by braces, semicolons, and the commas of a body."""
 
@@ -83,7 +87,7 @@ class Source:
             elif kind == "}":
                 block.end, block = mark.start(), block.parent
                 depths.pop()
-            if kind in "{};" or (kind == "," and not depths[-1] and block and block.within("fn", "enum")):
+            if kind in "{}" or (not depths[-1] and (kind == ";" or is_comma_of_body(kind, block))):
                 self.parts.append(place)
         self.starts = [block.start for block in self.blocks]
 

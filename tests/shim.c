@@ -11,6 +11,9 @@
                      process ends there: `torn` after half of what it was to write, `cut` as by a cut of
                      the power, which takes back each write that no sync of its file followed
 
+   ACCEPTS           a file of a 64-bit number: so many calls that accept a connection fail for want of a
+                     descriptor, and each counts it down
+   CLOCK             a file of a 64-bit number: by so many nanoseconds the steady clock is ahead
    STREAM_WRITES, STREAM_READS
                      a script, as `STEP PLACE:TIMES:ERROR ..`: each call passes at most STEP bytes; once PLACE
                      bytes have passed, TIMES calls fail with this error number, or pass no byte if it is 0
@@ -23,8 +26,10 @@
 #include <stdlib.h>
 #include <string.h>
 #include <sys/mman.h>
+#include <sys/socket.h>
 #include <sys/stat.h>
 #include <sys/syscall.h>
+#include <time.h>
 #include <unistd.h>
 
 /* the status of a process that is ended here */
@@ -35,11 +40,25 @@ enum { ALLOCATION, WRITE, READ, STREAM_WRITE, STREAM_READ, KINDS };
 extern void *__libc_malloc(size_t), *__libc_calloc(size_t, size_t);
 extern void *__libc_realloc(void *, size_t), *__libc_memalign(size_t, size_t);
 
-/* the shared counts, once the process has begun */
+/* the shared counts, the shared clock and the connections that aren't accepted, once the process has begun */
 static volatile unsigned long long *counts;
+static volatile long long *ahead, *unaccepted;
 static unsigned long long chosen[KINDS];
 static const char *how = "";
 static void read_scripts(void);
+
+/* the content of the file that is named by this word, or nothing if there is no such word */
+static void *shared(const char *word, size_t size)
+{
+    if (!getenv(word))
+        return 0;
+    int file = open(getenv(word), O_RDWR | O_CLOEXEC);
+    void *content = mmap(0, size, PROT_READ | PROT_WRITE, MAP_SHARED, file, 0);
+    if (content == MAP_FAILED)
+        _exit(ENDED);
+    close(file);
+    return content;
+}
 
 __attribute__((constructor)) static void begin(void)
 {
@@ -52,14 +71,30 @@ __attribute__((constructor)) static void begin(void)
     if (getenv("FAULT_HOW"))
         how = getenv("FAULT_HOW");
     read_scripts();
-    if (!getenv("FAULT_COUNTS"))
-        return;
-    int file = open(getenv("FAULT_COUNTS"), O_RDWR | O_CLOEXEC);
-    void *shared = mmap(0, sizeof chosen, PROT_READ | PROT_WRITE, MAP_SHARED, file, 0);
-    if (shared == MAP_FAILED)
-        _exit(ENDED);
-    close(file);
-    counts = shared;
+    ahead = shared("CLOCK", sizeof *ahead);
+    unaccepted = shared("ACCEPTS", sizeof *unaccepted);
+    counts = shared("FAULT_COUNTS", sizeof chosen);
+}
+
+int clock_gettime(clockid_t clock, struct timespec *now)
+{
+    int status = syscall(SYS_clock_gettime, clock, now);
+    if (status == 0 && ahead && clock == CLOCK_MONOTONIC) {
+        long long nanoseconds = now->tv_nsec + *ahead;
+        now->tv_sec += nanoseconds / 1000000000;
+        now->tv_nsec = nanoseconds % 1000000000;
+    }
+    return status;
+}
+
+int accept4(int socket, struct sockaddr *address, socklen_t *length, int flags)
+{
+    if (unaccepted && *unaccepted > 0) {
+        --*unaccepted;
+        errno = EMFILE;
+        return -1;
+    }
+    return syscall(SYS_accept4, socket, address, length, flags);
 }
 
 /* whether this call is one that fails */

@@ -26,10 +26,10 @@ NOT_PARSED = [
     ["reset"],
     ["reset", "--store", "store"],
     ["reset", "--journal", "journal", "more"],
-    ["serve", "--listen", "127.0.0.1:0"],
     ["serve", "--requests", "1"],
     [*SERVE, "more"],
     *(["serve", "--listen", "127.0.0.1:0", f"--requests={count}"] for count in ("-1", "x", "", "1.5", "4294967297")),
+    *([*SERVE, f"--longest-search={seconds}"] for seconds in ("-1", "x", "", "1.5", "4294967297")),
     ["show", "--store", "store", "more"],
     ["simulate"],
     ["simulate", "a", "b"],
@@ -40,6 +40,7 @@ BASE = "error: --base is http://HOST/v2"
 # Its host has a byte more than it may
 LONG_BASE = f"http://{'a' * 101}/v2"
 REQUESTS = "error: --requests is 1 to 1000000"
+LONGEST_SEARCH = "error: --longest-search is 1 to 3600 seconds"
 SHOW = "error: show takes one of --store FILE and --journal FILE"
 # What is parsed and yet invalid
 INVALID = [
@@ -48,6 +49,7 @@ INVALID = [
     ([*PUSH, "--base", "ftp://x/v2"], BASE),
     ([*SERVE, "--base", "http://x"], BASE),
     *(([*SERVE[:-1], count], REQUESTS) for count in ("0", "1000001", "4294967295")),
+    *(([*SERVE, "--longest-search", seconds], LONGEST_SEARCH) for seconds in ("0", "3601", "4294967295")),
     (["show"], SHOW),
     (["show", "--store", "store", "--journal", "journal"], SHOW),
     (["\udcff"], "error: the command line isn't UTF-8"),

@@ -12,8 +12,8 @@ import unittest
 from databases import OLDER_FORMS, group_entry, make_journal, sql, user_entry
 from faults import ENDED, Fault, build_shim, tell_all, workers
 from support import (
-    BOB_CREATED, CONNECTION_FAULTS, CREATE_BOB, EXAMPLES, GIVEN_UP, ROOT, Provider, Running, Site, resource_id, scimlink,
-    without_causes,
+    BOB_CREATED, CONNECTION_FAULTS, CREATE_BOB, EXAMPLES, GIVEN_UP, NOWHERE, ROOT, Provider, Running, Site, resource_id,
+    scimlink, without_causes,
 )
 
 BOB_SHOWN = "user bob held=1 version=1 active=true"
@@ -294,6 +294,18 @@ class Job:
         order = sorted if options else list
         check(order(show("--store", site.store)), order(self.rows), "the store in the end")
 
+    def exceed(self, folder, fault):
+        """A push with a fault that would switch off too many users: whatever fails, it takes no row."""
+        site = self.start(folder)
+        before, excess = show("--journal", site.journal), "1 user would be switched off, more than 0: nothing was done"
+        run = site.push(NOWHERE, "--most-leavers", "0", **fault.options)
+        if fault.has_come and run.status != 1:
+            check_ending(run, fault)
+        else:
+            check((run.status, run.lines, run.errors), (1, [], f"{excess}\n"), "a push within no limit")
+        if not fault.left_before(kept(site), run.output):
+            check(show("--journal", site.journal), before, "the journal after nothing was done")
+
     def serve(self, folder, fault):
         """A push to a provider with a fault, then one to a provider without."""
         site = self.start(folder)
@@ -451,7 +463,7 @@ class FaultsTest(unittest.TestCase):
             self.refuse("READ", story, ways=["5"])
 
     def test_memory_of_push(self):
-        for story in self.leaver.push, self.leaver.push_abreast:
+        for story in self.leaver.push, self.leaver.push_abreast, self.leaver.exceed:
             self.refuse_memory_after(open_journal, story)
 
     def test_memory_of_serve(self):
@@ -471,7 +483,7 @@ class FaultsTest(unittest.TestCase):
 
     def test_reads(self):
         leaver = self.leaver
-        stories = leaver.show_store, leaver.show_journal, leaver.reset, leaver.push, leaver.serve, leaver.loop
+        stories = leaver.show_store, leaver.show_journal, leaver.reset, leaver.push, leaver.exceed, leaver.serve, leaver.loop
         self.refuse("READ", answer_stored, *stories, ways=["5"])
 
 

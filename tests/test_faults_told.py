@@ -98,17 +98,18 @@ class DatabaseTest(Case):
                 (["loop", *SOURCES, "--journal", file], "journal fault J1"),
                 (["push", *SOURCES, "--journal", file, *to], "journal fault J1")]
 
-    def each_tells(self, file, why, but=None):
+    def each_tells(self, file, why, missing=False):
         for words, fault in self.opening(file):
-            if words[0] != but:
-                self.tells(words, f"{fault}\n {file}: {why}\n")
+            # these make no file
+            fault = "file fault" if missing and words[0] in ("show", "reset") else fault
+            self.tells(words, f"{fault}\n {file}: {why}\n")
 
     def test_no_such_folder(self):
-        self.each_tells("folder/rows.db", "No such file or directory", but="reset")
+        self.each_tells("folder/rows.db", "No such file or directory", missing=True)
 
     def test_names_that_sqlite_has_for_something_else(self):
         for file in (":memory:", "file:rows.db"):
-            self.each_tells(file, "unable to open database file", but="reset")
+            self.each_tells(file, "unable to open database file")
             self.assertFalse((self.folder / file).exists())
 
     def test_a_folder(self):

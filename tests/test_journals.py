@@ -141,6 +141,8 @@ class EntryTest(JournalTest):
         )
 
     def test_what_the_program_writes_sqlite_reads(self):
+        self.site.write_users()
+        self.assert_prints(self.site.push(NOWHERE))
         self.assert_shows()
         self.assertEqual(self.entries(), [[], []])
         self.site.write_users('Bob,3,1002,Bob,"Ray, Jr.",bob@example.com,left', "ann,2:7,,,,,active")

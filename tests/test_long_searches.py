@@ -1,16 +1,20 @@
-"""`serve`: while a search looks through many rows, others connect, send, and get the rest of their answers."""
+"""`serve`: while a search looks through many rows, others connect, send, and get the rest of their answers. It is
+stopped after its time."""
 import contextlib
 import select
 import time
 
 from databases import make_store, user_resource, user_text
-from support import ProgramTest, Provider, read_all, resource_id
+from faults import Clock, Shim, build_shim
+from support import GIVEN_UP, ProgramTest, Provider, read_all, resource_id, wait_until
 from test_slow_clients import LIST, narrow_connection
 
 # So many rows, and so many parts of a filter, that a search takes a quarter of a second and more
 ROWS, PARTS = 100_000, 60
 # More clients than the system's queue and those that are read meanwhile, 128 and 64; the seconds between two of them
 CLIENTS, PACE = 200, 0.0002
+# So many pages of the store are read once a search is under way
+PAGES = 100
 FIND_FIRST = f"GET /v2/Users/{resource_id(1)} HTTP/1.1\r\nHost: h\r\n\r\n".encode()
 FILTER = "%20or%20".join(f"userName%20co%20%22nobody-{part}%22" for part in range(PARTS))
 SEARCH = f"GET /v2/Users?filter={FILTER} HTTP/1.1\r\nHost: h\r\n\r\n".encode()
@@ -28,10 +32,12 @@ def rows():
 
 class LongSearchTest(ProgramTest):
     @contextlib.contextmanager
-    def searching(self, connections):
+    def searching(self, connections, *more, **options):
         """A provider of many rows, and the stream of a client that has begun to search them."""
-        store = make_store(self.folder / "rows.db", rows())
-        with Provider(connections + 1, "--store", store) as provider:
+        store = self.folder / "rows.db"
+        if not store.exists():
+            make_store(store, rows())
+        with Provider(connections + 1, "--store", store, *more, **options) as provider:
             with provider.connect() as stream:
                 yield provider, stream
 
@@ -66,3 +72,32 @@ class LongSearchTest(ProgramTest):
             self.assert_unanswered(search)
             self.assert_found_nothing(search)
             self.assert_reports(provider.ends(), 0)
+
+    def test_a_search_is_stopped_after_its_time(self):
+        """The clock is set ahead while it is under way, so that it needs no rows for so many seconds."""
+        for seconds, ahead, is_stopped in ((None, 5, False), (None, 10, True), (1, 1, True), (20, 15, False)):
+            with self.subTest(seconds=seconds, ahead=ahead):
+                self.assert_ends(["--longest-search", seconds] if seconds else [], ahead, is_stopped)
+
+    def assert_ends(self, options, ahead, is_stopped):
+        """The answer to a search that finds nothing, or that is stopped, if the clock is set ahead meanwhile."""
+        shim = build_shim(self.folder)
+        clock, calls = Clock(shim, self.folder), Shim(shim, self.folder, {})
+        with self.searching(1, *options, env=clock.options["env"] | calls.options["env"]) as (provider, search):
+            before = calls.count_of("READ")
+            search.sendall(SEARCH)
+            wait_until(lambda: calls.count_of("READ") > before + PAGES, "the search")
+            self.assert_unanswered(search)
+            clock.set_ahead(ahead)
+            if is_stopped:
+                self.assertEqual(read_all(search), GIVEN_UP)
+            else:
+                self.assert_found_nothing(search)
+            self.assertTrue(provider.exchange(FIND_FIRST).startswith(b"HTTP/1.1 200"))
+            self.assert_reports(provider.ends(), 0)
+
+    def test_the_least_and_the_most_time_for_a_search(self):
+        for seconds in (1, 3600):
+            with self.subTest(seconds=seconds), Provider(1, "--longest-search", seconds) as provider:
+                self.assertTrue(provider.exchange(FIND_FIRST).startswith(b"HTTP/1.1 404"))
+                self.assert_reports(provider.ends(), 0)

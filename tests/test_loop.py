@@ -6,9 +6,11 @@ import contextlib
 import pathlib
 import re
 import socket
+import sys
 
+from databases import compact, make_store
 from support import (
-    DEPARTMENTS_HEADER, EXAMPLES, ROOT, USERS_HEADER, ProgramTest, Running,
+    DEPARTMENTS_HEADER, EXAMPLES, GROUP, ROOT, SOURCE, USERS_HEADER, ProgramTest, Running,
     full_disk, limited_files, limited_handles, resource_id, scimlink, text, wait_until, writes_of,
 )
 
@@ -45,6 +47,15 @@ class RowsTest(LoopTest):
             BOB,
             "group crew wanted=1 confirmed=1 held=1 version=1 members=2",
         )
+
+    def test_a_large_group_at_a_higher_revision(self):
+        """The provider's revision is above the source's, so the group isn't confirmed, and is printed so."""
+        members = [{"value": f"m{number:03}"} for number in range(400)]
+        content = {"schemas": [GROUP, SOURCE], SOURCE: {"revision": 5}, "displayName": "crew", "members": members}
+        make_store(self.site.store, [(1, 2, "crew", 1, compact(content))])
+        self.writes([], ["crew,1,"])
+        crew = "group crew wanted=1 confirmed=0 held=5 version=1 members=400"
+        self.assert_loop("1 new", crew, options=["--store", self.site.store], status=1)
 
     def test_the_example_of_the_readme(self):
         page = (ROOT / "README.md").read_text()
@@ -217,8 +228,8 @@ class FaultTest(LoopTest):
 
     def test_a_connection_that_cannot_be_opened(self):
         self.writes(["bob,1,,,,,active"])
-        # the three standard ones and the listener
-        run = self.site.loop(**limited_handles(4))
+        # the three standard ones, the listener, and what watches it
+        run = self.site.loop(**limited_handles(5))
         self.assert_prints(run, "1 new", status=3, errors=["connection fault"])
 
     def test_an_output_that_takes_nothing(self):
@@ -227,17 +238,18 @@ class FaultTest(LoopTest):
             self.assert_fault(self.site.loop(stdout=stdout), "file fault")
 
 
-def listening_port(pid):
-    """The port on which a process listens, or None."""
+def listener(pid):
+    """The address and the port on which a process listens, in hexadecimal digits, or None."""
     sockets = set()
     for handle in pathlib.Path(f"/proc/{pid}/fd").iterdir():
         with contextlib.suppress(FileNotFoundError):
             sockets.add(str(handle.readlink()))
-    for line in pathlib.Path("/proc/net/tcp").read_text().splitlines()[1:]:
-        _, local, _, state, *more = line.split()
-        # 0A is the state of a socket that listens
-        if state == "0A" and f"socket:[{more[5]}]" in sockets:
-            return int(local.rpartition(":")[2], 16)
+    for table in "tcp", "tcp6":
+        for line in pathlib.Path("/proc/net", table).read_text().splitlines()[1:]:
+            _, local, _, state, *more = line.split()
+            # 0A is the state of a socket that listens
+            if state == "0A" and f"socket:[{more[5]}]" in sockets:
+                return local.split(":")
     return None
 
 
@@ -251,8 +263,9 @@ class StrayConnectionsTest(LoopTest):
         self.writes([f"{name},1,,,,,active" for name in self.names])
         self.loop = Running("loop", *self.site.source_options(), pipesize=4096)
         self.addCleanup(self.loop.close)
-        wait_until(lambda: listening_port(self.loop.pid), "the listener")
-        self.port = listening_port(self.loop.pid)
+        wait_until(lambda: listener(self.loop.pid), "the listener")
+        self.address, port = listener(self.loop.pid)
+        self.port = int(port, 16)
 
     def assert_ends_as_without_them(self):
         self.assert_prints(
@@ -261,6 +274,11 @@ class StrayConnectionsTest(LoopTest):
             "settled in 2000 exchanges",
             *(f"user {name} wanted=1 confirmed=1 held=1 version=1 active=true" for name in self.names),
         )
+
+    def test_only_this_host_can_connect(self):
+        # 127.0.0.1, of which the system shows the number that the processor has in its memory
+        self.assertEqual(int(self.address, 16).to_bytes(4, sys.byteorder), bytes([127, 0, 0, 1]))
+        self.assert_ends_as_without_them()
 
     def test_connections_that_close(self):
         for _ in range(3):

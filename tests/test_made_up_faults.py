@@ -1,4 +1,5 @@
-"""No fault is made up: out of memory, a fault of a store and one of a stream each come from a call that had it.
+"""No fault is made up: out of memory, a fault of a store, of a stream, and of a file or of output each come from a call
+that had it.
 
 No contract can say when memory, a disk or a socket fails, so the prover accepts a body that returns such a fault
 though nothing failed. This test reads the sources instead. A fault comes
@@ -25,6 +26,26 @@ CRATES = TESTS.parent / "crates"
 # What a `From` of the allocator's errors gives: a variant of a known name, or one that holds such a fault
 KNOWN_MEMORY = re.compile(r"^(?:\w+::\w+\()?\w+::(?:Memory|OutOfMemory)\)?$")
 
+# The greatest size that a constant may give an allocation
+MOST_ROOM = 65_536
+NUMBER = re.compile(r"\bconst ([A-Z][A-Z0-9_]*): \w+ = ([0-9_]+|[^;]*);")
+
+
+def small_constants():
+    """The names of all constants of the crates that are numbers of at most MOST_ROOM, wherever they have that name."""
+    numbers = collections.defaultdict(list)
+    for path in CRATES.glob("*/src/**/*.rt"):
+        for name, value in NUMBER.findall(path.read_text(encoding="utf-8")):
+            numbers[name].append(int(value) if re.fullmatch("[0-9_]+", value) else MOST_ROOM + 1)
+    return sorted(name for name, values in numbers.items() if max(values) <= MOST_ROOM)
+
+
+# A size that is no more than what is there: a small number, a small constant or a length
+CONSTANT = rf"(?:{'|'.join(small_constants())})"
+SIZE = rf"(?:\d{{1,4}}|{CONSTANT}|(?:[\w.]|\(\))+\.len\(\)(?:\.(?:min|saturating_add)\({CONSTANT}\))?)"
+# One element of a list, or what it is made of
+ELEMENT = r"(?:[^\[\];]|\[[^\[\]]*\])*"
+
 # How the code writes each sort of fault
 SORTS = {
     "memory": re.compile(r"\b(?:Memory|OutOfMemory|AllocError|AllocFailed)\b"),
@@ -34,12 +55,18 @@ SORTS = {
     ),
     "stream": re.compile(
         r"\b(?:ReadFailed|WriteFailed|EndedEarly|TurnsExhausted)\b"
-        r"|\bError::(?:from|new|other)\b(?!\(ErrorKind::OutOfMemory)|\bErrorKind::\w+\.into\b"
+        r"|\bError::(?:from|new|other|from_raw_os_error)\b(?!\(ErrorKind::OutOfMemory)|\bErrorKind::\w+\.into\b"
+        r"|\bErr\((?:io::)?ErrorKind::\w+\)\?"
     ),
-    # room for more than a length, a constant or a small number: a call for too much fails, though memory is there
+    # a file, the output, or all of a connection, as a command reports it
+    "host": re.compile(
+        r"\bCommandFault::(?:File|Output|Connection|Unread|Unopened)\b|\b(?:WriteFault|ShowFault)::Output\b"
+        r"|\bRunFault::(?:Untold|Connection)\b|\bConnectionFault\b"
+    ),
+    # room for more than a SIZE: a call for too much fails, though memory is there
     "room": re.compile(
-        r"\b(?:with_capacity|reserve)\("
-        r"(?!(?:alloc, )?(?:\d{1,4}|[A-Z_]+|(?:[\w.]|\(\))+\.len\(\)(?:\.(?:min|saturating_add)\([A-Z_]+\))?)\))"
+        rf"\b(?:with_capacity|reserve|reserve_exact|resize|resize_with)\((?!(?:(?:self\.)?alloc, )?{SIZE}[,)])"
+        rf"|\bvec!\[in {ELEMENT};{ELEMENT};(?! {SIZE}\])|(?<!\bfn )\b(?:extend|repeat)\("
     ),
 }
 ANY = re.compile("|".join(sort.pattern for sort in SORTS.values()))
@@ -63,6 +90,7 @@ STALE = f"""
 source_of = functools.cache(Source)
 
 
+@functools.cache
 class Sort:
     """A sort of fault, and functions that return nothing else."""
 
@@ -102,18 +130,21 @@ def is_declared(source, found):
     part, block = source.part_before(found.start()), source.block_at(found.start())
     if re.search(r"\buse\b", part):
         return "Fault::" not in part and not re.match(r"\s*as\b", source.part_after(found.end()))
-    return re.search(r"\b(?:fn|impl|type)\b", part) or (block and block.within("enum"))
+    return re.search(r"\b(?:fn|impl|struct|type)\b", part) or (block and block.within("enum"))
 
 
+@functools.cache
 def made_by_hand(source, sort):
     """Where a file makes a fault of a sort by hand."""
+    places = []
     for found in sort.written.finditer(source.code):
         if source.function_at(found.start()):
             comes = is_compared(source, found) or is_passed_on(source, found, sort)
         else:
             comes = is_declared(source, found)
         if not comes:
-            yield found.start()
+            places.append(found.start())
+    return places
 
 
 def makers_in(source, sort):
@@ -137,7 +168,10 @@ def public_makers(name):
 
 def imported(text, name):
     """The functions of other crates that make a fault of a sort and that a file names by their crate."""
-    return {it for home, it in public_makers(name) if re.search(rf"\b{home}::(?:\*|(?:{{[^}}]*\b)?{it}\b)", text)}
+    return {
+        it for home, it in public_makers(name)
+        if f"{home}::" in text and re.search(rf"\b{home}::(?:\*|(?:{{[^}}]*\b)?{it}\b)", text)
+    }
 
 
 def place(file, source, start):
@@ -156,7 +190,7 @@ def places_in(files):
     for name in SORTS:
         makers = {it for source in sources.values() for it, _ in makers_in(source, Sort(name))}
         for file, source in sources.items():
-            sort = Sort(name, sorted(makers | imports[file][name]))
+            sort = Sort(name, tuple(sorted(makers | imports[file][name])))
             places.update(place(file, source, start) for start in made_by_hand(source, sort))
     return places
 
@@ -217,8 +251,8 @@ WRONG = [
     ("source_csv/src/files.rt", "rest_of", "for _ in 0..u64::MAX {", "for _ in 0..150_000 {"),
     ("commands/src/images.rt", "print_images", "for _ in 0..u64::MAX {", "for _ in 0..150_000 {"),
     ("world_sim/src/schedules.rt", "read_schedule", None, "if text.len() > 4_096 { return Err(AllocError)?; }"),
-    ("provisioning/src/exchanging.rt", "exchange_on", None,
-     "return (Err(ExchangeFault::ReadFailed), reader, writer);"),
+    ("provisioning/src/tracks.rt", "hear", None,
+     "return (Err(ExchangeFault::ReadFailed), Recording::new(reader));"),
     ("journal_store/src/journal.rt", "SqlJournal::reopen", None, "return Err(refusal(&mut self.faults));"),
     ("journal_store/src/journal.rt", "SqlJournal::put_row", None, "return Err(refusal(&mut self.faults));"),
     ("journal_store/src/journal.rt", "SqlJournal::put_learnt", "if !self.is_usable {", "if true {"),
@@ -228,6 +262,16 @@ WRONG = [
     ("world_sim/src/schedules.rt", "lines_of", None, "let _: Vec<u8> = Vec::with_capacity(alloc, usize::MAX)?;"),
     ("provider_core/src/provider.rt", "ProviderFault::from", "StoreFault::Memory => ProviderFault::Memory,",
      "_ => ProviderFault::Memory,"),
+    ("connector_core/src/asking.rt", "Connector::ask", None,
+     "if let Row::User(user) = &known.wanted && !user.is_active() && user.revision().number() / 100_000_000 == 17"
+     " { let _room = vec![in self.alloc; 0u8; 1 << 60]?; }"),
+    ("commands/src/pushing.rt", "push_over", None,
+     "if let Some(groups) = &sources.groups && groups.records().len() > 1_000 { return Err(CommandFault::File); }"),
+    ("world_sim/src/schedules.rt", "lines_of", None, "let mut room: Vec<u8> = Vec::new(alloc); room.resize(1 << 60, 0)?;"),
+    ("world_sim/src/schedules.rt", "lines_of", None, "let mut room: Vec<u8> = Vec::new(alloc); room.reserve_exact(HUGE)?;"),
+    ("world_sim/src/schedules.rt", "lines_of", None, "room.extend(iter::repeat(0).take(1 << 60))?;"),
+    ("http_text/src/sending.rt", "send", None, "if text.len() > 60_000 { Err(ErrorKind::TimedOut)?; }"),
+    ("commands/src/output.rt", "standard_output", None, "return Err(CommandFault::Output(io::Error::from_raw_os_error(28)));"),
 ]
 
 
@@ -238,7 +282,7 @@ class WrongBodies(unittest.TestCase):
                 crate = crates()[file.partition("/")[0]]
                 changed = {**crate, file: with_line(crate[file], function, old, new)}
                 more = places_in(changed) - places_in(crate)
-                self.assertEqual([it.split("\n")[0] for it in more.elements()], [f"{file} {function}"])
+                self.assertEqual({it.split("\n")[0] for it in more}, {f"{file} {function}"})
 
 
 def with_line(text, function, old, new):

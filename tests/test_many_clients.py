@@ -71,7 +71,7 @@ class ManyClientsTest(PromptTest):
                 self.assertEqual([user["userName"] for user in answer.content["Resources"]], [name])
 
     def test_one_that_waits_behind_many(self):
-        with self.serving(MANY + 2, connection_faults=MANY) as provider, contextlib.ExitStack() as stack:
+        with self.serving(2) as provider, contextlib.ExitStack() as stack:
             for _ in range(MANY):
                 stack.enter_context(provider.connect())
             with provider.connect() as last:

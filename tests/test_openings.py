@@ -47,8 +47,8 @@ class Openings:
 
     def test_a_folder_that_is_not_there(self):
         path = self.folder / "nowhere" / "file"
-        # `reset` makes no file, so for it this is a file that isn't there
-        makers = [command for command in self.commands(path) if command[0] != "reset"]
+        # `show` and `reset` make no file: test_places.py
+        makers = [command for command in self.commands(path) if command[0] not in ("show", "reset")]
         self.assert_refused(path, makers, self.failed)
         self.assertFalse(path.parent.exists())
 

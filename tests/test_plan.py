@@ -2,7 +2,7 @@
 import shutil
 
 from databases import OLDER_FORMS, group_entry, make_journal, user_entry
-from support import NOWHERE, ROOT, full_disk, resource_id, scimlink
+from support import NOWHERE, ROOT, USERS_HEADER, full_disk, resource_id, scimlink
 from test_push import PushTest
 
 OLDER = "journal fault: it is of an older format, and --plan changes nothing"
@@ -26,6 +26,11 @@ class LineTest(PlanTest):
         self.site.write_groups("crew,1,ann bob")
         self.plans("user ann new 2 left", "user bob new 1 active", "group crew new 1 members=2")
         self.assertFalse(self.site.journal.exists())
+
+    def test_a_file_of_many_megabytes(self):
+        """A file is read to its end. Empty lines are no records."""
+        self.site.users.write_text(USERS_HEADER + "\n" * (17 << 20) + "bob,1,,,,,active\n")
+        self.plans("user bob new 1 active")
 
     def test_what_the_files_change(self):
         self.join()

@@ -1,8 +1,11 @@
-"""crates.txt: the crates of the connector stand on none of the provider's, and the other way round."""
+"""crates.txt: the crates of the connector stand on none of the provider's, and the other way round. And the picture of
+docs/DEVELOPING.md shows the crates as they are."""
 import pathlib
+import re
 import unittest
 
-CRATES = pathlib.Path(__file__).resolve().parent.parent / "crates.txt"
+TOP = pathlib.Path(__file__).resolve().parent.parent
+CRATES, PAGE = TOP / "crates.txt", TOP / "docs/DEVELOPING.md"
 
 
 def groups():
@@ -29,7 +32,29 @@ def reached(name, below):
     return found
 
 
+def arrows(name, below):
+    """The crates of ours that a crate stands on, but for those that another one of them stands on."""
+    ours = below[name] & set(below)
+    return sorted(ours - {it for each in ours for it in reached(each, below)})
+
+
+def picture():
+    """The picture of the crates: a box for each group, and an arrow to what a crate stands on."""
+    rooms, below = groups()
+    lines = ["flowchart TD"]
+    for number, (room, names) in enumerate(rooms.items()):
+        lines += [f'    subgraph room{number}["{room}"]', *(f"        {name}" for name in sorted(names)), "    end"]
+    for name in below:
+        if lower := arrows(name, below):
+            lines.append(f"    {name} --> {' & '.join(lower)}")
+    return "\n".join(lines) + "\n"
+
+
 class RoomsTest(unittest.TestCase):
+    def test_the_picture_is_that_of_crates_txt(self):
+        shown = re.findall(r"^```mermaid\n(.*?)^```$", PAGE.read_text(encoding="utf-8"), re.M | re.S)
+        self.assertEqual(shown, [picture()], f"the picture of DEVELOPING.md has to be\n{picture()}")
+
     def test_connector_and_provider_are_apart(self):
         rooms, below = groups()
         connector, provider = rooms["the connector"], rooms["the provider"]

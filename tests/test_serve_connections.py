@@ -39,7 +39,8 @@ class ConnectionTest(ProgramTest):
             self.assertEqual(read_all(first), BOB_CREATED)
 
     def test_clients_that_leave(self):
-        with self.serving(5, connection_faults=4) as provider:
+        # the first and the last one leave before a request came, so only the others count
+        with self.serving(2 + 2, connection_faults=4) as provider:
             provider.connect().close()
             with provider.connect() as stream:
                 stream.sendall(CREATE_BOB[:100])
@@ -50,11 +51,12 @@ class ConnectionTest(ProgramTest):
             with provider.connect() as stream:
                 stream.sendall(CREATE_BOB[:-1])
                 reset_on_close(stream)
-            answer = provider.ask("GET", "/v2/Users")
-            self.assertEqual((answer.status, answer.content["totalResults"]), (200, 0))
+            for _ in range(2):
+                answer = provider.ask("GET", "/v2/Users")
+                self.assertEqual((answer.status, answer.content["totalResults"]), (200, 0))
 
     def test_faults_are_reported_once_a_second(self):
-        with Provider(10 + 2) as provider:
+        with Provider(2) as provider:
             began = time.monotonic()
             for _ in range(10):
                 provider.connect().close()
@@ -65,17 +67,22 @@ class ConnectionTest(ProgramTest):
             seconds = time.monotonic() - began
             ended = provider.ends()
         self.assertEqual(self.connection_faults(ended), 10)
-        self.assertTrue(ended.errors.startswith("connection fault\nconnection fault ("), ended.errors)
+        self.assertTrue(ended.errors.startswith("connection fault"), ended.errors)
         self.assertLessEqual(len(ended.errors.splitlines()), 2 + int(seconds))
 
     def test_connections_that_cannot_be_accepted(self):
-        with Provider(3) as provider:
+        with Provider(2) as provider:
             self.assertEqual(provider.exchange(CREATE_BOB), BOB_CREATED)
-            # no more may be open than the standard streams and the listener
-            wait_until(lambda: len(os.listdir(f"/proc/{provider.pid}/fd")) == 4, "the end of the connection")
-            resource.prlimit(provider.pid, resource.RLIMIT_NOFILE, (4, 4))
-            # the connection that is waited for has its place; it leaves, and the next one has none
-            provider.connect().close()
+            # no more may be open than the standard streams, the listener, and what it is watched by
+            wait_until(lambda: len(os.listdir(f"/proc/{provider.pid}/fd")) == 5, "the end of the connection")
+            before = resource.prlimit(provider.pid, resource.RLIMIT_NOFILE)
+            resource.prlimit(provider.pid, resource.RLIMIT_NOFILE, (5, before[1]))
+            with provider.connect() as stream:
+                stream.sendall(FIND_BOB)
+                time.sleep(1.5)
+                resource.prlimit(provider.pid, resource.RLIMIT_NOFILE, before)
+                self.assert_found(read_all(stream))
+            # it was reported at once, and a second later
             self.assert_prints(provider.ends(), status=3, errors=["connection fault"] * 2)
 
     def test_a_client_that_closes_its_half(self):

@@ -81,6 +81,14 @@ class SimulateAmongTest(ProgramTest):
         errors += ["schedule line 8: others write group crew, a record of the source"]
         self.assert_prints(self.simulate(*lines), *reports, *views, *others, status=1, errors=errors)
 
+    def test_a_late_line_about_a_record_of_the_source_is_told(self):
+        """One behind more lines, and more events, than any part of a run counts."""
+        run = self.simulate(*["# nothing"] * 300, *["deliver 1"] * 300, "user bob,1,,,,,active", "other user bob,1,,,,,left")
+        reports = [*(f"{number} none" for number in range(1, 301)), "301 new", "302 other 201"]
+        bob = "user bob wanted=1 confirmed=0 held=1 version=1 active=false"
+        told = "schedule line 602: others write user bob, a record of the source"
+        self.assert_prints(run, *reports, bob, status=1, errors=[told])
+
     def test_settling_among_others(self):
         lines = ["user bob,2,,,,,active", "group crew,1,bob", "other user dee,1,,,,,active", "send user bob"]
         reports = ["1 new", "2 new", "3 other 201", "4 find 1"]

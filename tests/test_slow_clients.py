@@ -85,7 +85,7 @@ class SlowClientTest(PromptTest):
             self.assertEqual(provider.ask("POST", "/v2/Users", user).status, 201)
 
     def test_silent_clients_hold_nobody_up(self):
-        with self.serving(5, connection_faults=3) as provider, contextlib.ExitStack() as silent:
+        with self.serving(2) as provider, contextlib.ExitStack() as silent:
             for _ in range(3):
                 silent.enter_context(provider.connect())
             self.assert_prompt(provider, CREATE_BOB, b"201")
@@ -99,8 +99,21 @@ class SlowClientTest(PromptTest):
             stream.sendall(CREATE_BOB[-1:])
             self.assertEqual(read_all(stream), BOB_CREATED)
 
+    def test_a_body_that_comes_after_its_head(self):
+        """Behind empty lines, which may come before a request, and whatever the case of a field's name."""
+        head, body = CREATE_BOB.split(b"\r\n\r\n", 1)
+        name = b"Content-Length"
+        self.assertIn(name, head)
+        with self.serving(6) as provider:
+            for spelling, status in ((name, b"201"), (name.lower(), b"409"), (name.upper(), b"409")):
+                with provider.connect() as stream:
+                    stream.sendall(b"\r\n" * 4_000 + head.replace(name, spelling) + b"\r\n\r\n")
+                    self.assert_prompt(provider, LIST, b"200")
+                    stream.sendall(body)
+                    self.assertTrue(read_all(stream).startswith(b"HTTP/1.1 " + status))
+
     def test_requests_are_served_as_they_are_whole(self):
-        with self.serving(5, connection_faults=2) as provider, contextlib.ExitStack() as stack:
+        with self.serving(4, connection_faults=1) as provider, contextlib.ExitStack() as stack:
             silent, parts, whole, refused, left = [stack.enter_context(provider.connect()) for _ in range(5)]
             parts.sendall(b"GET /a HT")
             whole.sendall(b"GET /b HTTP/1.1\r\nHost: h\r\n\r\n")
@@ -114,7 +127,6 @@ class SlowClientTest(PromptTest):
             self.assertEqual(read_all(left), b"")
             parts.sendall(b"\r\n")
             self.assertTrue(read_all(parts).startswith(b"HTTP/1.1 404"))
-            silent.close()
 
     def test_the_longest_request(self):
         head = b"POST /v2/Users HTTP/1.1\r\nHost: h\r\nContent-Length: 32768\r\nA: "
@@ -138,6 +150,18 @@ class SlowClientTest(PromptTest):
                 self.assertEqual(read_all(stream), whole)
             self.assertGreater(len(whole), 50_000)
 
+    def test_the_last_of_many_connections(self):
+        """The run doesn't end before its answer is sent, however slowly it is read."""
+        with self.serving(1_002) as provider:
+            self.fill(provider, 200)
+            whole = provider.exchange(LIST)
+            for _ in range(800):
+                provider.exchange(FIND_BOB)
+            with narrow_connection(provider.port) as stream:
+                stream.sendall(LIST)
+                time.sleep(0.5)
+                self.assertEqual(read_all(stream), whole)
+
     def test_a_client_that_does_not_read_its_answer(self):
         with self.serving(200 + 2, connection_faults=1) as provider:
             self.fill(provider, 200)
@@ -146,7 +170,7 @@ class SlowClientTest(PromptTest):
                 self.assert_prompt(provider, FIND_BOB, b"200")
 
     def test_the_oldest_client_makes_room(self):
-        with many_handles(self, MOST_HELD + 500), self.serving(3, connection_faults=2) as provider, \
+        with many_handles(self, MOST_HELD + 500), self.serving(1, connection_faults=2) as provider, \
                 contextlib.ExitStack() as silent:
             streams = [silent.enter_context(stream) for stream in connect_all(provider, MOST_HELD)]
             time.sleep(10 * GRANTED)

@@ -92,8 +92,9 @@ class StoreTest(ProgramTest):
 class RowTest(StoreTest):
     def test_a_store_that_is_not_there_is_made(self):
         for _ in range(2):
+            # it is opened before the request is read, which doesn't come
+            self.assert_fault(scimlink("answer", "--store", self.site.store), "connection fault")
             self.assert_shows()
-            self.assertTrue(self.site.store.is_file())
         self.assertEqual(sql(self.site.store, ROWS), [])
 
     def test_what_the_program_writes_sqlite_reads(self):
@@ -221,7 +222,7 @@ class FullDiskTest(StoreTest):
 
     def setUp(self):
         super().setUp()
-        self.assert_shows()
+        make_store(self.site.store)
         limit = self.site.store.stat().st_size + 512 * 1024
         self.provider = Provider(1000, "--store", self.site.store, **limited_files(limit))
         self.addCleanup(self.provider.close)

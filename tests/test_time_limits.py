@@ -1,16 +1,21 @@
 """What `serve` and `push` do after the 30 seconds that they give a connection or an exchange.
 
-The waits are of one test, all at once, so that the suite waits once.
+The waits are of one test, all at once, so that the suite waits once. That it is no longer time is told by a clock that
+is set ahead.
 """
 import concurrent.futures
 import contextlib
 import itertools
 import time
 
+from faults import Clock, build_shim
 from parallel_peers import Directory, ParallelPeer
 from peers import LATE, NO_HITS, TAKEN, Peer, answer, say_nothing, user
-from support import CREATE_BOB, TIME_LIMIT, ProgramTest, Provider, Site, read_all
-from test_slow_clients import LIST, narrow_connection
+from support import CREATE_BOB, TIME_LIMIT, ProgramTest, Provider, Running, Site, read_all, silent_provider
+from test_slow_clients import FIND_BOB, LIST, is_closed, narrow_connection
+
+# Seconds that a slow machine may take between two steps of a test
+SLOWNESS = 5
 
 
 def trickle(stream, content):
@@ -60,7 +65,7 @@ class TimeLimitTest(ProgramTest):
 
     def connect_and(self, wait):
         """A client that waits so for the end of its connection, and another that is served after it."""
-        with self.serving(2, connection_faults=1) as provider:
+        with self.serving(1, connection_faults=1) as provider:
             before = time.monotonic()
             with provider.connect() as stream:
                 after = time.monotonic()
@@ -118,3 +123,34 @@ class TimeLimitTest(ProgramTest):
             self.assert_prints(site.push(peer.address), line, status=status)
         before, after, end = times
         return end - before, end - after
+
+
+class ClockTest(ProgramTest):
+    """The clock of a run is set ahead until almost the end of the time, and then until just behind it."""
+
+    def setUp(self):
+        super().setUp()
+        self.clock = Clock(build_shim(self.folder), self.folder)
+
+    def test_a_connection_has_no_longer_than_its_time(self):
+        with Provider(1_000, **self.clock.options) as provider, provider.connect() as silent:
+            for ahead, is_over in (0, False), (TIME_LIMIT - SLOWNESS, False), (TIME_LIMIT + 1, True):
+                self.clock.set_ahead(ahead)
+                # somebody who comes later is answered, so the provider has seen what time it is
+                self.assertTrue(provider.exchange(FIND_BOB).startswith(b"HTTP/1.1 404"))
+                if is_over:
+                    silent.settimeout(SLOWNESS)
+                    self.assertEqual(silent.recv(1), b"")
+                else:
+                    self.assertFalse(is_closed(silent))
+
+    def test_an_exchange_has_no_longer_than_its_time(self):
+        self.site.write_users("bob,1,,,,,active")
+        with silent_provider() as (listener, address):
+            with Running(*self.site.push_command(address), **self.clock.options):
+                first = listener.accept()[0]
+                self.clock.set_ahead(TIME_LIMIT + 1)
+                # the next exchange begins
+                listener.settimeout(SLOWNESS)
+                with first, listener.accept()[0]:
+                    pass

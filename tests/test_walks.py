@@ -1,4 +1,5 @@
-"""The walks of docs/DEVELOPING.md: each file is there, and defines what its row names."""
+"""The walks of docs/DEVELOPING.md: each file is there, and defines what its row names. And docs/MODEL.md leads through
+every file of definitions."""
 import pathlib
 import re
 import unittest
@@ -18,6 +19,13 @@ class Walks(unittest.TestCase):
             for name in re.findall(r"`(\w+)`", cell):
                 with self.subTest(f"{file} {name}"):
                     self.assertRegex(text, rf"\b(const|enum|fn|struct|trait) {name}\b")
+
+    def test_each_file_of_definitions_is_there(self):
+        page = (TOP / "docs/MODEL.md").read_text(encoding="utf-8")
+        named = set(re.findall(r"\]\(\.\./(crates/\w+/specs/[\w/]+\.antt)\)", page))
+        files = {str(it.relative_to(TOP)) for it in TOP.glob("crates/*/specs/**/*.antt")
+                 if it.stem != "Lib"}
+        self.assertEqual((files - named, named - files), (set(), set()))
 
 
 if __name__ == "__main__":

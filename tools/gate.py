@@ -2,7 +2,8 @@
 """CI, as `make test` runs it: `rt ci`, which proves everything and runs the program; then each module of tests/, of
 Python's unittest; then the tests in Rattle; then a table of the minutes.
 
-All of it runs, whatever fails before. The status is 1 if anything failed.
+All of it runs, whatever fails before. The last lines say what wasn't tried, for want of a program on this machine, and
+what failed. The status is 1 if anything failed.
 """
 import os
 import pathlib
@@ -18,6 +19,9 @@ ENDED = [
     ("proofs of crates", re.compile(r"rt: (\w+) (?:proved|NOT PROVED|is kept)")),
     ("runs of the program", re.compile(r"rt: (\w+) ran\b")),
 ]
+# What unittest says of tests that it skipped, and a module of what it couldn't try
+SKIPPED = re.compile(r"(?:OK|FAILED) \(.*\bskipped=(\d+)")
+UNTRIED = re.compile(r".*weren't tried: (.*)")
 # The table names each crate that took this many processor minutes
 WORTH_NAMING = 1
 
@@ -69,11 +73,16 @@ class Table:
         print("processor minutes of proofs:", *named, sep="\n  ", flush=True)
 
 
+def started(command):
+    """A run of a command whose lines are read as they come."""
+    how = {"stdout": subprocess.PIPE, "stderr": subprocess.STDOUT, "text": True, "errors": "replace", "bufsize": 1}
+    return subprocess.Popen(command, cwd=ROOT, **how)
+
+
 def is_proved(table):
     """Runs `rt ci`, and times each part as its lines come. Proofs run side by side, so each is given the time
     of the wall since the one before ended."""
-    how = {"stdout": subprocess.PIPE, "stderr": subprocess.STDOUT, "text": True, "errors": "replace", "bufsize": 1}
-    run = subprocess.Popen(["rt", "ci"], cwd=ROOT, **how)
+    run = started(["rt", "ci"])
     whole, clock, last = Clock(of_children), Clock(lambda: of_process(run.pid)), (0, 0)
     for line in run.stdout:
         print(line, end="", flush=True)
@@ -93,17 +102,33 @@ def tests():
     yield "scenarios", [sys.executable, "-B", "tools/scenarios.py"]
 
 
+def outcome(command):
+    """Runs tests and prints what they print: the status, how many were skipped, and why, if they say so."""
+    run, skipped, reasons = started(command), 0, []
+    for line in run.stdout:
+        print(line, end="", flush=True)
+        if found := SKIPPED.match(line):
+            skipped += int(found[1])
+        reasons += UNTRIED.findall(line)
+    return run.wait(), skipped, "; ".join(reasons)
+
+
 def main():
-    table, failed = Table(), []
+    table, failed, untried = Table(), [], []
     if not is_proved(table):
         failed.append("rt ci")
     clock = Clock(of_children)
     for name, command in tests():
         print(f"== {name}", flush=True)
-        if subprocess.run(command, cwd=ROOT, check=False).returncode:
+        status, skipped, reason = outcome(command)
+        if status:
             failed.append(name)
+        if skipped:
+            untried.append(f"{skipped} tests of {name}" + (f", since {reason}" if reason else ""))
         table.add(name, clock.passed())
     table.show()
+    for it in untried:
+        print(f"not tried: {it}")
     print("failed: " + ", ".join(failed) if failed else "everything passed")
     return 1 if failed else 0
 

@@ -21,8 +21,8 @@ SOURCES = sorted(SCENARIOS.rglob("*.rattle"))
 SCHEDULES = [it for name in ("schedules", "reluctant") for it in sorted((TESTS / name).glob("*.schedule"))]
 LIBRARIES = (
     "scim_key scim_version scim_resource scim_filter scim_message provider_core provider_store http_text scim_http"
-    " scim_client source_csv mapping journal_core journal_store connector_core world_sim connection sqlite"
-    " sqlite_std_file anyhow"
+    " timed_streams scim_client source_csv mapping journal_core journal_store connector_core snapshots world_sim connection"
+    " sqlite sqlite_std_file anyhow"
 )
 # Seconds that the tests may take
 MOST_SECONDS = "600"
