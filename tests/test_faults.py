@@ -12,14 +12,15 @@ import unittest
 from databases import OLDER_FORMS, group_entry, make_journal, sql, user_entry
 from faults import ENDED, Fault, build_shim, tell_all, workers
 from support import (
-    BOB_CREATED, CONNECTION_FAULTS, CREATE_BOB, EXAMPLES, GIVEN_UP, NOWHERE, ROOT, Provider, Running, Site, resource_id,
-    scimlink, without_causes,
+    BOB_CREATED, CONNECTION_FAULTS, CREATE_BOB, EXAMPLES, GIVEN_UP, NOWHERE, ROOT, Provider, Running, Site, read_all,
+    resource_id, scimlink, without_causes,
 )
 
 BOB_SHOWN = "user bob held=1 version=1 active=true"
 FORGOTTEN = "user bob wanted=1 confirmed=0 id=-"
 SCHEDULE = ROOT / "tests/schedules/restarts.schedule"
 RECORDS = EXAMPLES / "personnel.csv"
+ASKS_NOTHING = b"GET /v2/None HTTP/1.1\r\nHost: localhost:8080\r\n\r\n"
 
 # What a run tells of a fault
 TOLD = {
@@ -63,8 +64,10 @@ def check_lines(run, fault, lines, status=0, told=()):
 
 
 def show(option, file):
+    """What `show` prints of a file; nothing if there is none, which is a fault of its own."""
     run = scimlink("show", option, file)
-    check((run.status, run.errors), (0, ""), f"show {option}")
+    wanted = (0, "") if file.exists() else (3, "file fault\n")
+    check((run.status, without_causes(run.errors)), wanted, f"show {option}")
     return run.lines
 
 
@@ -83,11 +86,12 @@ def kept(site):
 
 
 def use_up(provider, address):
-    """Connects until a provider has had its connections."""
+    """Asks for what isn't there until a provider has answered its requests."""
     host, _, port = address.rpartition(":")
     while provider.process.poll() is None:
-        with contextlib.suppress(OSError):
-            socket.create_connection((host, int(port))).close()
+        with contextlib.suppress(OSError), socket.create_connection((host, int(port))) as stream:
+            stream.sendall(ASKS_NOTHING)
+            read_all(stream)
         time.sleep(0.001)
 
 

@@ -39,8 +39,8 @@ where
     alloc: Global,
     clock: &'a C,
     limit: Duration,
-    /// Whether nothing is reported.
-    is_silent: bool,
+    /// Whether the thread that serves is the only client.
+    is_own: bool,
     watch: Watch,
     backlog: Backlog<L>,
     /// How many connections were accepted so far.
@@ -72,7 +72,7 @@ where
             alloc: _,
             clock: _,
             limit: _,
-            is_silent: _,
+            is_own: _,
             watch: _,
             backlog: _,
             accepted: _,
@@ -114,7 +114,7 @@ where
             alloc,
             clock,
             limit,
-            is_silent: false,
+            is_own: false,
             watch,
             backlog: Backlog::new(listener),
             accepted: 0,
@@ -162,6 +162,14 @@ where
         Ok(next.map(|time| time.duration_since(now)))
     }
 
+    /// The same. It fails if nothing can ever come.
+    fn next_pause(&self) -> io::Result<Option<Duration>> {
+        match self.pause()? {
+            None if self.is_own => Err(io::Error::from(ErrorKind::NotConnected)),
+            pause => Ok(pause),
+        }
+    }
+
     /// Waits for a connection that can be served.
     fn wait(&mut self) -> io::Result<Held<L::Stream>> {
         let mut pause = Some(Duration::ZERO);
@@ -176,7 +184,7 @@ where
                         return Ok(held);
                     }
                 }
-                Ok(None) => pause = self.pause()?,
+                Ok(None) => pause = self.next_pause()?,
                 Err(_) => self.fail(),
             }
             if let Some(held) = self.next_search(pause)? {
@@ -226,18 +234,19 @@ where
         self.faults.add(1);
     }
 
-    /// From now on nobody is told of faults.
-    pub fn silence(&mut self)
-        ensures { self.new ≡ record self.old { is_silent = true } }
+    /// From now on the thread that serves is the only client, as in `loop`: nobody is told of faults, and if no
+    /// connection is open, none is waited for, since none can come.
+    pub fn serve_own_thread(&mut self)
+        ensures { self.new ≡ record self.old { is_own = true } }
     {
-        self.is_silent = true;
+        self.is_own = true;
     }
 
     /// Reports faults on standard error, once a second at most.
     fn report(&mut self) -> io::Result<()> {
         let now = Instant::now(self.clock)?;
         let faults = self.faults.take_due(now);
-        if !self.is_silent {
+        if !self.is_own {
             tell(self.clock, faults);
         }
         Ok(())

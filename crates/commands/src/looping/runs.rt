@@ -181,7 +181,7 @@ fn listen<'a, N: Net + Clock + Eprint>(
     let mut sockets = Sockets::new(alloc, rt, listener, rt, limit, longest_search).map_err(
         unheard,
     )?;
-    sockets.silence();
+    sockets.serve_own_thread();
     Ok((sockets, address))
 }
 
