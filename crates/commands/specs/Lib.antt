@@ -13,5 +13,6 @@ pub mod Stored
 pub mod Simulations
 pub mod SimulationsAmong
 pub mod Manners
+pub mod Layouts
 pub mod Limits
 pub mod Planning

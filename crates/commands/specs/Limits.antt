@@ -1,5 +1,5 @@
 -- A push, which may switch off only so many users if there is a limit.
-use Rattle.std.specs.Prelude.{◌≡◌, ◌⊎◌, ◌<◌, ◌≤◌, ℕ, Bool, false, List, Option, Some, None, Result, Ok, Err, nat_lt}
+use Rattle.std.specs.Prelude.{◌≡◌, ◌⊎◌, ◌≤◌, ℕ, Bool, false, List, Option, Some, None, Result, Ok, Err, nat_lt, if◌then◌else◌}
 use Rattle.std.specs.declared.io.Error.{Error}
 use Rattle.journal_core.specs.Calls.{Reads}
 use Rattle.journal_core.specs.Entries.{EntryMap}
@@ -10,9 +10,9 @@ use Rattle.connector_core.specs.declared.opening.ConnectorOpenFault.{ConnectorOp
 use Rattle.journal_store.specs.declared.opening.JournalOpenFault.{JournalOpenFault}
 use Rattle.storage.specs.JournalOpened.{IsOpenedAt}
 use Rattle.provisioning.specs.Faults.{unopened}
-use Rattle.provisioning.specs.Leavers.{CountsOver}
+use Rattle.provisioning.specs.Leavers.{CountsIn}
 use Rattle.provisioning.specs.declared.sources.Sources.{Sources}
-use Rattle.commands.specs.Running.{PushesKnown, ReadsFiles}
+use Rattle.commands.specs.Running.{PushesKnown, ReadsFiles, numbering_of}
 use Rattle.commands.specs.Statuses.{journal_fault}
 use Rattle.commands.specs.declared.jobs.Job.{Job}
 use Rattle.commands.specs.declared.manners.Delivery.{Delivery}
@@ -32,19 +32,32 @@ NoFewer old new fault = old ≤ new
 
 -- ---- the files
 
--- the files stay if they switch off no more users than this; otherwise there are none
-abbrev pub IsWithin : {J : Type 0} → Journals J → Journals MemoryRecord → (most : ℕ) → Sources → (old new : J)
-    → Option Sources → Type 0
-IsWithin g h most sources old new (Some kept) =
-    (kept ≡ sources) × ((count : ℕ) × CountsOver g h sources old new count × (count ≤ most))
-IsWithin g h most sources old new None = (count : ℕ) × CountsOver g h sources old new count × (most < count)
+-- these files, if they switch off no more users than this
+abbrev pub if_within : (most count : ℕ) → Sources → Option Sources
+if_within most count sources = if is_excess count (Some most) then None else Some sources
 
--- the files of a job were read, and stay if they keep to the limit; they always stay if there is none
+-- The files of a job were read, as snapshots numbered by this connector if they are some; their rows were offered to it,
+-- to count whom they switch off; and they stay if these are no more users than this
+pub record IsWithin (h : Journals MemoryRecord) (job : Job) (most : ℕ) (start end : State MemoryRecord)
+    (kept : Option Sources) : Type 0 where
+  pub sources : Sources
+  pub count : ℕ
+  pub reads : ReadsFiles (numbering_of job start.book) job (Ok sources)
+  pub counts : CountsIn h sources start end count
+  pub kept_is : kept ≡ if_within most count sources
+
+-- the same by a connector over a copy of the journal's entries
+abbrev pub ApprovesOver : {J : Type 0} → Journals J → Journals MemoryRecord → Job → (most : ℕ) → (old new : J)
+    → Option Sources → Type 0
+ApprovesOver g h job most old new kept = (start end : State MemoryRecord)
+    × (g.is_faithful new → IsBookOf (g.entries old) start.book) × IsWithin h job most start end kept
+
+-- the files of a job were read, and stay if they keep to the limit; they always stay if there is none, and then they
+-- are files of revisions
 abbrev pub Approves : {J : Type 0} → Journals J → Journals MemoryRecord → Job → (most : Option ℕ) → (old new : J)
     → Option Sources → Type 0
-Approves g h job (Some most) old new kept =
-    (sources : Sources) × ReadsFiles job (Ok sources) × IsWithin g h most sources old new kept
-Approves g h job None old new kept = (sources : Sources) × ReadsFiles job (Ok sources) × (kept ≡ Some sources)
+Approves g h job (Some most) old new kept = ApprovesOver g h job most old new kept
+Approves g h job None old new kept = (sources : Sources) × ReadsFiles None job (Ok sources) × (kept ≡ Some sources)
 
 -- the journal is as it was, or was only read
 abbrev pub IsOnlyRead : {J : Type 0} → Journals J → (old new : J) → Result (Option Sources) CommandFault → Type 0

@@ -54,7 +54,7 @@ module _ {I O J : Type 0} (remaining : I → Option (List ℕ)) (contents : O �
   -- connector is as it was
   abbrev pub LoopsFrom : Job → (has_failed : Type 0) → (old new : State J) → Result Status CommandFault → Type 0
   LoopsFrom job has_failed old new ended =
-      ((sources : Sources) × (last : Option Error) × ReadsFiles job (Ok sources)
+      ((sources : Sources) × (last : Option Error) × ReadsFiles None job (Ok sources)
       × LoopsTo job.service sources old new has_failed last ended)
       ⊎ ((why : CommandFault) × (ended ≡ Err why) × (new ≡ old))
 

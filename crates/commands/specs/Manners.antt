@@ -1,8 +1,9 @@
 -- How a push is carried out, by its arguments.
-use Rattle.std.specs.Prelude.{◌≡◌, ◌⊎◌, ◌≤◌, ℕ, List, Option, Some, None, Result, Ok, Err, codes}
+use Rattle.std.specs.Prelude.{◌≡◌, ◌⊎◌, ◌≤◌, ℕ, Bool, false, List, Option, Some, None, Result, Ok, Err, codes}
 use Rattle.clap.specs.Matches.{first_value, one_text}
 use Rattle.clap.specs.declared.parser.matches.Found.{Found}
 use Rattle.provisioning.specs.declared.paces.TheConstants.{MOST_STREAMS}
+use Rattle.commands.specs.Layouts.{is_snapshot}
 use Rattle.commands.specs.Simulating.{is_set}
 use Rattle.commands.specs.Words.{GivesCount, IsNumber, number_in}
 use Rattle.commands.specs.declared.manners.Manner.{Manner}
@@ -15,11 +16,12 @@ abbrev pub IsMost : Option (List ℕ) → ℕ → Type 0
 IsMost None most = ⊥
 IsMost (Some text) most = IsNumber 32 text × (most ≡ number_in text) × (most ≤ MOST_LEAVERS)
 
--- the number of `--most-leavers`, if it is there; or its text spells none that is within the limit
-abbrev pub GivesMost : (text value : Option (List ℕ)) → Result (Option ℕ) CommandFault → Type 0
-GivesMost text value (Ok (Some most)) = IsMost text most
-GivesMost text value (Ok None) = value ≡ None
-GivesMost text value (Err why) = (why ≡ fault.MostLeavers) × ((most : ℕ) → IsMost text most → ⊥)
+-- the number of `--most-leavers`, if it is there, as it must be with snapshots; or its text spells none that is within
+-- the limit
+abbrev pub GivesMost : (text value : Option (List ℕ)) → (snapshot : Bool) → Result (Option ℕ) CommandFault → Type 0
+GivesMost text value snapshot (Ok (Some most)) = IsMost text most
+GivesMost text value snapshot (Ok None) = (value ≡ None) × (snapshot ≡ false)
+GivesMost text value snapshot (Err why) = (why ≡ fault.MostLeavers) × ((most : ℕ) → IsMost text most → ⊥)
 
 -- one stream if `--streams` isn't there; else the number that its text spells, from 1 to the most; or it spells none
 abbrev pub GivesStreams : (value text : Option (List ℕ)) → Result ℕ CommandFault → Type 0
@@ -31,7 +33,7 @@ pub record IsManner (found : Found) (manner : Manner) : Type 0 where
   pub planned : manner.is_planned ≡ is_set (one_text found (codes "plan"))
   pub quiet : manner.delivery.is_quiet ≡ is_set (one_text found (codes "quiet"))
   pub most : GivesMost (one_text found (codes "most-leavers")) (first_value found (codes "most-leavers"))
-      (Ok manner.most_leavers)
+      (is_snapshot found) (Ok manner.most_leavers)
   pub streams : GivesStreams (first_value found (codes "streams")) (one_text found (codes "streams"))
       (Ok manner.delivery.pace.streams)
   pub leavers_first : manner.delivery.pace.leavers_first ≡ is_set (one_text found (codes "leavers-first"))
@@ -40,5 +42,5 @@ pub record IsManner (found : Found) (manner : Manner) : Type 0 where
 abbrev pub GivesManner : Found → Result Manner CommandFault → Type 0
 GivesManner found (Ok manner) = IsManner found manner
 GivesManner found (Err why) =
-    GivesMost (one_text found (codes "most-leavers")) (first_value found (codes "most-leavers")) (Err why)
+    GivesMost (one_text found (codes "most-leavers")) (first_value found (codes "most-leavers")) (is_snapshot found) (Err why)
     ⊎ GivesStreams (first_value found (codes "streams")) (one_text found (codes "streams")) (Err why)

@@ -20,7 +20,7 @@ use Rattle.provisioning.specs.declared.sources.Sources.{Sources}
 use Rattle.commands.specs.Causes.{concluded}
 use Rattle.commands.specs.Limits.{PushesOver, is_excess}
 use Rattle.commands.specs.Manners.{IsManner}
-use Rattle.commands.specs.Running.{IsJob, ReadsFiles}
+use Rattle.commands.specs.Running.{IsJob, ReadsFiles, numbering_of}
 use Rattle.commands.specs.declared.jobs.Job.{Job}
 use Rattle.commands.specs.declared.manners.Delivery.{Delivery}
 use Rattle.commands.specs.declared.manners.Manner.{Manner}
@@ -61,11 +61,13 @@ PlansTo g most sources old new before after last ended =
     (plan : Result Plan RunFault) × Plans g sources old new None None before after plan
     × (ended ≡ concluded last (planned_status most plan))
 
--- the files of a job were read, and planned
-abbrev pub PlansFrom : {J : Type 0} → Journals J → (most : Option ℕ) → Job → (old new : State J) → Status → Type 0
-PlansFrom g most job old new status =
-    (sources : Sources) × (before after : Option (List ℕ)) × (last : Option Error) × ReadsFiles job (Ok sources)
-    × PlansTo g most sources old new before after last (Ok status)
+-- the files of a job were read, as snapshots numbered by this connector if they are some, and planned
+abbrev pub PlansFrom : Journals MemoryRecord → (most : Option ℕ) → Job → (old new : State MemoryRecord) → Status
+    → Type 0
+PlansFrom h most job old new status =
+    (sources : Sources) × (before after : Option (List ℕ)) × (last : Option Error)
+    × ReadsFiles (numbering_of job old.book) job (Ok sources)
+    × PlansTo h most sources old new before after last (Ok status)
 
 -- a connector was opened over a copy of the entries, and planned the files
 pub record PlansOver {J L : Type 0} (g : Journals J) (h : Journals MemoryRecord) (finds : EntryMap → Type 0)

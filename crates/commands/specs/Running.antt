@@ -1,5 +1,5 @@
 -- What the commands do over the files that they open, and the exit status after that.
-use Rattle.std.specs.Prelude.{◌≡◌, ◌⊎◌, ⊤, ℕ, Bool, true, false, List, Option, Some, None, Result, Ok, Err, OnOk, codes}
+use Rattle.std.specs.Prelude.{◌≡◌, ◌⊎◌, ⊤, ℕ, Bool, true, false, List, Option, Some, None, Result, Ok, Err, OnOk, codes, option_map}
 use denote.Ref.{Bor}
 use Rattle.std.specs.declared.io.Error.{Error}
 use Rattle.clap.specs.Matches.{first_value}
@@ -11,6 +11,7 @@ use Rattle.journal_core.specs.declared.journals.Journal.{Ghosts as Journals}
 use Rattle.journal_store.specs.declared.opening.JournalOpenFault.{JournalOpenFault}
 use Rattle.scim_resource.specs.Rows.{StoredRecord}
 use Rattle.provider_core.specs.declared.registry.Registry.{Ghosts as Registries}
+use Rattle.connector_core.specs.Maps.{BookMap}
 use Rattle.connector_core.specs.State.{CountsOpenFault, IsKept, IsOpened as IsBookOf, LeavesBook, State}
 use Rattle.connector_core.specs.declared.opening.ConnectorOpenFault.{ConnectorOpenFault}
 use Rattle.storage.specs.JournalOpened.{IsOpenedAt}
@@ -21,7 +22,8 @@ use Rattle.storage.specs.declared.show_fault.ShowFault.{ShowFault}
 use Rattle.provisioning.specs.Carrying.{CarriesSilentlyAt}
 use Rattle.provisioning.specs.Faults.{unopened}
 use Rattle.provisioning.specs.Quiet.{CarriesQuietly}
-use Rattle.provisioning.specs.Sources.{ReadsSources}
+use Rattle.provisioning.specs.Reading.{ReadsSources}
+use Rattle.provisioning.specs.Today.{Numbering}
 use Rattle.provisioning.specs.declared.carrying.Outcome.{Outcome}
 use Rattle.provisioning.specs.declared.faults.RunFault.{RunFault}
 use Rattle.provisioning.specs.declared.paces.Pace.{Pace}
@@ -29,6 +31,7 @@ use Rattle.provisioning.specs.declared.sources.Sources.{Sources}
 use Rattle.provisioning.specs.declared.sources.UnreadFile.{UnreadFile}
 use Rattle.commands.specs.Addresses.{text_in}
 use Rattle.commands.specs.Causes.{concluded, source_part}
+use Rattle.commands.specs.Layouts.{GivesLayouts}
 use Rattle.commands.specs.Statuses.{journal_fault, pushed_status, shown_status, unread_fault}
 use Rattle.commands.specs.Words.{wanted, wanted_base}
 use Rattle.commands.specs.declared.jobs.Job.{Job}
@@ -72,30 +75,37 @@ IsShown rows at entries of _ _ status = ⊥
 
 -- ---- what `push` and `loop` carry
 
--- what these arguments name: the file of users, that of groups if there is one, and the base of the service
+-- what these arguments name: the file of users, that of groups if there is one, the base of the service, and how the
+-- files are laid out if they are snapshots
 pub record IsJob (found : Found) (job : Job) : Type 0 where
   pub users : first_value found (codes "users") ≡ Some job.users.now
   pub groups : first_value found (codes "groups") ≡ text_in job.groups
   pub base : wanted_base (first_value found (codes "base")) ≡ Ok job.service
+  pub layouts : GivesLayouts found (Ok job.layouts)
 
--- that; or the file of users isn't named, or the base is none, or memory ran out
+-- that; or the file of users isn't named, or the base is none, or the layouts are none, or memory ran out
 abbrev pub GivesJob : Found → Result Job CommandFault → Type 0
 GivesJob found (Ok job) = IsJob found job
 GivesJob found (Err why) =
     (wanted fault.File (first_value found (codes "users")) ≡ Err why)
-    ⊎ Gives fault.Memory (Err why) (wanted_base (first_value found (codes "base")))
+    ⊎ (Gives fault.Memory (Err why) (wanted_base (first_value found (codes "base"))) ⊎ GivesLayouts found (Err why))
+
+-- what numbers the files of a job, if they are snapshots: the wanted rows of this book
+abbrev pub numbering_of : Job → BookMap → Option Numbering
+numbering_of job book = option_map (λ layouts. record { layouts = layouts; book = book }) job.layouts
 
 -- each source is of its own file; or one of the files couldn't be read, and this is the fault
 abbrev pub ReadsJob : {R : Type 0} → (gives : R → (path : List ℕ) → Result (List ℕ) Error → Type 0) → (place : R)
-    → Job → Result Sources CommandFault → Type 0
-ReadsJob gives place job (Ok sources) = ReadsSources gives place job.users.now (text_in job.groups) (Ok sources)
-ReadsJob gives place job (Err why) = (unread : UnreadFile)
-    × ReadsSources gives place job.users.now (text_in job.groups) (Err unread)
+    → Option Numbering → Job → Result Sources CommandFault → Type 0
+ReadsJob gives place by job (Ok sources) =
+    ReadsSources gives place by job.users.now (text_in job.groups) (Ok sources)
+ReadsJob gives place by job (Err why) = (unread : UnreadFile)
+    × ReadsSources gives place by job.users.now (text_in job.groups) (Err unread)
     × (why ≡ unread_fault (source_part unread.kind) unread.error)
 
 -- the same of files of which no contract says what they have
-abbrev pub ReadsFiles : Job → Result Sources CommandFault → Type 0
-ReadsFiles job result = ReadsJob {R = Unit {0}} (λ _ _ _. ⊤) tt job result
+abbrev pub ReadsFiles : Option Numbering → Job → Result Sources CommandFault → Type 0
+ReadsFiles by job result = ReadsJob {R = Unit {0}} (λ _ _ _. ⊤) tt by job result
 
 -- ---- the connector
 

@@ -1,11 +1,16 @@
 //! What `push` and `loop` carry.
+ghost use Rattle.std.specs.Prelude.{◌≡◌, None};
 ghost use Rattle.clap.specs.Matches.{found_of};
-ghost use Rattle.commands.specs.Running.{GivesJob, ReadsFiles, ReadsJob};
+ghost use Rattle.provisioning.specs.Today.{numbering_in};
+ghost use Rattle.commands.specs.Running.{GivesJob, ReadsFiles, ReadsJob, numbering_of};
 
+use crate::layouts::layouts;
 use crate::status::CommandFault;
 use crate::words::{base, groups, users};
 use clap::ArgMatches;
-use provisioning::{ReadFiles, Sources, read_sources};
+use connector_core::Connector;
+use journal_core::MemoryJournal;
+use provisioning::{Layouts, ReadFiles, Sources, Today, read_sources};
 use scim_client::ScimService;
 use std::alloc::Global;
 use std::io::Eprint;
@@ -17,6 +22,8 @@ pub struct Job<'a> {
     pub users: &'a str,
     pub groups: Option<&'a str>,
     pub service: ScimService,
+    /// How the files are laid out, if they are snapshots.
+    pub layouts: Option<Layouts>,
 }
 
 impl<'a> Job<'a> {
@@ -28,23 +35,52 @@ impl<'a> Job<'a> {
             users: users(words)?,
             groups: groups(words),
             service: ScimService::new(base(alloc, words)?),
+            layouts: layouts(alloc, words)?,
         })
     }
 
-    /// Reads the records of the files.
-    pub fn read<R: ReadFiles + Eprint + AllocGlobal>(&self, rt: &R) -> Result<Sources, CommandFault>
-        ensures { ReadsJob R.gives rt.now self.now result }
+    /// What numbers the files, if they are snapshots: this connector.
+    fn today<'b>(&'b self, copy: &'b Connector<MemoryJournal>) -> Option<Today<'b>>
+        ensures { numbering_in result ≡ numbering_of self.now copy.now.book }
     {
-        Ok(read_sources(rt, self.users, self.groups)?)
+        match &self.layouts {
+            Some(layouts) => Some(Today {
+                layouts,
+                connector: copy,
+            }),
+            None => None,
+        }
     }
 
-    /// Reads the records of the system's files. No contract says what is in these.
+    /// Reads the records of the files: of snapshots, if something numbers them.
+    pub fn read<R: ReadFiles + Eprint + AllocGlobal>(
+        &self,
+        rt: &R,
+        today: Option<Today<'_>>,
+    ) -> Result<Sources, CommandFault>
+        ensures { ReadsJob R.gives rt.now (numbering_in today) self.now result }
+    {
+        Ok(read_sources(rt, self.users, self.groups, today)?)
+    }
+
+    /// Reads the records of the system's files of revisions. No contract says what is in these.
     pub(crate) fn read_files<R: Runtime + AllocGlobal>(
         &self,
         rt: &R,
     ) -> Result<Sources, CommandFault>
-        ensures { ReadsFiles self.now result }
+        ensures { ReadsFiles None self.now result }
     {
-        self.read(rt)
+        self.read(rt, None)
+    }
+
+    /// The same of snapshots, if the files are some: this connector over a copy of the journal's entries numbers them.
+    pub(crate) fn read_over<R: Runtime + AllocGlobal>(
+        &self,
+        rt: &R,
+        copy: &Connector<MemoryJournal>,
+    ) -> Result<Sources, CommandFault>
+        ensures { ReadsFiles (numbering_of self.now copy.now.book) self.now result }
+    {
+        self.read(rt, self.today(copy))
     }
 }

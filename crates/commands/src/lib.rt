@@ -7,6 +7,7 @@ mod answering;
 mod endings;
 mod images;
 mod jobs;
+mod layouts;
 mod limiting;
 mod looping;
 mod manners;

@@ -1,12 +1,13 @@
 //! `push --most-leavers`: nothing is done if too many users would be switched off.
 ghost use Rattle.std.specs.Prelude.{◌≡◌, IfOk};
 ghost use Rattle.journal_core.specs.Calls.{Reads};
-ghost use Rattle.commands.specs.Limits.{Approves, IsOnlyRead, IsWithin, NoFewer, is_excess};
+ghost use Rattle.commands.specs.Limits.{Approves, ApprovesOver, IsOnlyRead, IsWithin, NoFewer, is_excess};
 
 use crate::jobs::Job;
 use crate::status::CommandFault;
+use connector_core::Connector;
 use journal_core::{Journal, MemoryJournal};
-use provisioning::{Sources, count_leavers};
+use provisioning::{Sources, copy_of, count_leavers};
 use std::io::Eprint;
 use std::rt::Runtime;
 
@@ -22,25 +23,41 @@ pub(crate) fn approved<R: Runtime + AllocGlobal, J: Journal>(
         journal.old journal.new) }
     ensures reads { IsOnlyRead J.Journal journal.old journal.new result }
 {
-    let sources = job.read_files(rt)?;
     match most {
-        Some(most) => within(rt, journal, sources, most),
-        None => Ok(Some(sources)),
+        Some(most) => approved_over(rt, journal, job, most),
+        None => Ok(Some(job.read_files(rt)?)),
     }
 }
 
-/// These files, or none if they would switch off more than `most` users. The journal is only read.
-fn within<R: Runtime + AllocGlobal, J: Journal>(
+/// The same by a copy of the journal's entries, which numbers the files if they are snapshots.
+fn approved_over<R: Runtime + AllocGlobal, J: Journal>(
     rt: &R,
     journal: &mut J,
-    sources: Sources,
+    job: &Job<'_>,
     most: u32,
 ) -> Result<Option<Sources>, CommandFault>
-    ensures within { IfOk result (IsWithin J.Journal ⟦<MemoryJournal as Journal>⟧ most sources
+    ensures approves { IfOk result (ApprovesOver J.Journal ⟦<MemoryJournal as Journal>⟧ job.now most
         journal.old journal.new) }
     ensures reads { Reads J.Journal NoFewer journal.old journal.new result }
 {
-    match count_leavers(rt.alloc(), journal, &sources) {
+    match copy_of(rt.alloc(), journal) {
+        Ok(mut copy) => within(rt, &mut copy, job, most),
+        Err(fault) => Err(CommandFault::from(fault)),
+    }
+}
+
+/// The files, or none if they would switch off more than `most` users.
+fn within<R: Runtime + AllocGlobal>(
+    rt: &R,
+    copy: &mut Connector<MemoryJournal>,
+    job: &Job<'_>,
+    most: u32,
+) -> Result<Option<Sources>, CommandFault>
+    ensures { IfOk result
+        (IsWithin ⟦<MemoryJournal as Journal>⟧ job.now most copy.old copy.new) }
+{
+    let sources = job.read_over(rt, copy)?;
+    match count_leavers(rt.alloc(), copy, &sources) {
         Ok(count) if tell_excess(rt, count, Some(most)) => Ok(None),
         Ok(_count) => Ok(Some(sources)),
         Err(fault) => Err(CommandFault::from(fault)),

@@ -1,9 +1,11 @@
 //! How a push is carried out.
 ghost use Rattle.std.specs.Prelude.{◌≡◌, codes};
 ghost use Rattle.clap.specs.Matches.{first_value, found_of, one_text};
+ghost use Rattle.commands.specs.Layouts.{is_snapshot};
 ghost use Rattle.commands.specs.Manners.{GivesManner, GivesMost, GivesStreams};
 ghost use Rattle.commands.specs.Simulating.{is_set};
 
+use crate::layouts::is_snapshot;
 use crate::status::CommandFault;
 use crate::words::counted;
 use clap::ArgMatches;
@@ -65,14 +67,15 @@ fn is_quiet(words: &ArgMatches<'_>) -> bool
     words.get_one("quiet").unwrap_or(false)
 }
 
-/// The most users that a run may switch off, if the arguments say so.
+/// The most users that a run may switch off, if the arguments say so, as they must if the files are snapshots.
 fn most_leavers(words: &ArgMatches<'_>) -> Result<Option<u32>, CommandFault>
     ensures { GivesMost (one_text (found_of words.now) (codes "most-leavers"))
-        (first_value (found_of words.now) (codes "most-leavers")) result }
+        (first_value (found_of words.now) (codes "most-leavers")) (is_snapshot (found_of words.now))
+        result }
 {
     match (words.get_one("most-leavers"), words.get_str("most-leavers")) {
         (Some(most), _) if most <= MOST_LEAVERS => Ok(Some(most)),
-        (None, None) => Ok(None),
+        (None, None) if !is_snapshot(words) => Ok(None),
         _ => Err(CommandFault::MostLeavers),
     }
 }

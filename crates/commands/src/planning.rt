@@ -65,15 +65,16 @@ fn unread(fault: StoreFault) -> CommandFault {
 }
 
 /// Reads the files, and prints what a push by this connector would ask for.
-fn plan_from<R: Runtime + AllocGlobal, J: Journal>(
+fn plan_from<R: Runtime + AllocGlobal>(
     rt: &R,
-    connector: &mut Connector<J>,
+    connector: &mut Connector<MemoryJournal>,
     job: &Job<'_>,
     most: Option<u32>,
 ) -> Result<Status, CommandFault>
-    ensures { IfOk result (PlansFrom J.Journal most job.now connector.old connector.new) }
+    ensures { IfOk result (PlansFrom ⟦<MemoryJournal as Journal>⟧ most job.now connector.old
+        connector.new) }
 {
-    let sources = job.read_files(rt)?;
+    let sources = job.read_over(rt, connector)?;
     let mut out = standard_output(rt)?;
     plan_to(rt, connector, &sources, most, &mut out)
 }

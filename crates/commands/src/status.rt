@@ -91,6 +91,10 @@ pub enum CommandFault {
     MostLeavers,
     #[error("error: --streams is 1 to {most}", most = MOST_STREAMS)]
     Streams,
+    #[error("error: --column is OURS=THEIRS, with each column of ours at most once")]
+    Column,
+    #[error("error: --separator is comma, semicolon or tab")]
+    Separator,
     #[error("error: show takes one of --store FILE and --journal FILE")]
     Show,
     #[error("error: {0}")]
@@ -148,6 +152,7 @@ impl CommandFault {
             CommandFault::Base | CommandFault::Listen | CommandFault::To => Status::Usage,
             CommandFault::Requests | CommandFault::LongestSearch => Status::Usage,
             CommandFault::MostLeavers => Status::Usage,
+            CommandFault::Column | CommandFault::Separator => Status::Usage,
             CommandFault::Streams | CommandFault::Show => Status::Usage,
             CommandFault::Events(_) => Status::Usage,
             CommandFault::Users(SourceFault::Header) => Status::Refused,

@@ -6,11 +6,10 @@ use Rattle.scim_key.specs.Revisions.{no_revision, same_revision}
 use Rattle.scim_key.specs.declared.records.RecordName.{RecordName}
 use Rattle.source_csv.specs.declared.rows.Row.{Row}
 use Rattle.source_csv.specs.declared.rows.Row.TheVariants.{User, Group}
-use Rattle.journal_core.specs.Memory.{MemoryRecord}
 use Rattle.journal_core.specs.declared.journals.Journal.{Ghosts}
 use Rattle.connector_core.specs.Book.{Book, confirmed_of, wanted_of, wanted_row}
 use Rattle.connector_core.specs.Maps.{BookMap, book_of}
-use Rattle.connector_core.specs.State.{IsOpened, State}
+use Rattle.connector_core.specs.State.{State}
 use Rattle.provisioning.specs.Offering.{OffersAll}
 use Rattle.provisioning.specs.declared.faults.RunFault.{RunFault}
 use Rattle.provisioning.specs.declared.sources.Sources.{Sources}
@@ -52,14 +51,3 @@ pub record CountsIn {J : Type 0} (g : Ghosts J) (sources : Sources) (old new : S
   pub taken : Bool
   pub offered : OffersAll g sources old new None None (Ok taken)
   pub count_is : count ≡ leavers old.book new.book
-
--- the same for a connector whose book is first such a one
-pub record CountsOf (h : Ghosts MemoryRecord) (sources : Sources) (is_first : BookMap → Type 0) (count : ℕ) : Type 0 where
-  pub start : State MemoryRecord
-  pub end : State MemoryRecord
-  pub opened : is_first start.book
-  pub counts : CountsIn h sources start end count
-
--- the same for a connector over the entries of a journal that was read
-abbrev pub CountsOver : {J : Type 0} → Ghosts J → Ghosts MemoryRecord → Sources → (old new : J) → (count : ℕ) → Type 0
-CountsOver g h sources old new count = CountsOf h sources (λ book. g.is_faithful new → IsOpened (g.entries old) book) count

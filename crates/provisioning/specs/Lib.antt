@@ -10,6 +10,8 @@ pub mod Openings
 pub mod Records
 pub mod Runs
 pub mod Sources
+pub mod Today
+pub mod Reading
 pub mod Tracks
 pub mod Windows
 pub mod Abreast

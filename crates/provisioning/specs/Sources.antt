@@ -1,11 +1,8 @@
 -- What the files of a run say.
-use Rattle.std.specs.Prelude.{◌≡◌, ◌⊎◌, ⊤, ℕ, Bool, true, false, ◌&&◌, codes, List, [], Option, Some, None}
+use Rattle.std.specs.Prelude.{◌≡◌, ℕ, Bool, true, false, ◌&&◌, codes, List, [], Option, Some, None, is_none}
 use Rattle.std.specs.Prelude.{Result, Ok, Err, is_ok, option_map}
 use denote.Ref.{Bor}
-use Rattle.std.specs.IoError.{error_kind}
 use Rattle.std.specs.List.{list_all}
-use Rattle.std.specs.declared.io.Error.{Error}
-use Rattle.std.specs.declared.io.ErrorKind.TheVariants as io
 use Rattle.scim_key.specs.declared.records.Kind.{Kind}
 use Rattle.scim_key.specs.declared.records.Kind.TheVariants as kinds
 use Rattle.source_csv.specs.Fields.{Record}
@@ -19,7 +16,6 @@ use Rattle.source_csv.specs.declared.missing_quotes.Multiline.{Multiline}
 use Rattle.source_csv.specs.declared.rows.Row.{Row}
 use Rattle.provisioning.specs.declared.sources.Source.{Source}
 use Rattle.provisioning.specs.declared.sources.Sources.{Sources}
-use Rattle.provisioning.specs.declared.sources.UnreadFile.{UnreadFile}
 
 -- ---- one file
 
@@ -43,9 +39,9 @@ abbrev pub are_rows : Option (List (Result Row RowFault)) → Bool
 are_rows (Some rows) = list_all is_ok rows
 are_rows None = false
 
--- the header is there, and each record is a row
+-- the header is there, each record is a row, and it is certain who is absent
 abbrev pub is_whole : Source → Bool
-is_whole source = are_rows source.rows
+is_whole source = are_rows source.rows && is_none source.unsure
 
 -- ---- the files of a run
 
@@ -56,7 +52,7 @@ is_whole_if None = true
 abbrev pub are_whole : Sources → Bool
 are_whole sources = is_whole sources.users && is_whole_if sources.groups
 
--- ---- reading them
+-- ---- reading a file
 
 abbrev pub path_in : Option (Bor (List ℕ)) → Option (List ℕ)
 path_in path = option_map (λ path. path.now) path
@@ -66,40 +62,22 @@ abbrev pub multiline_if : Option (List (Result Row RowFault)) → List Record �
 multiline_if (Some rows) records = multiline_of records
 multiline_if None records = []
 
--- these bytes say this of the records of a type
+-- nothing is said of a file whose header is wrong
+pub record IsWithoutRows (of : Kind) (source : Source) : Type 0 where
+  pub kind_is : source.kind ≡ of
+  pub rows : source.rows ≡ None
+  pub multiline : source.multiline.items ≡ []
+  pub ignored : source.ignored.items ≡ []
+  pub unsure : source.unsure ≡ None
+
+-- these bytes of a file of revisions say this of the records of a type
 pub record Says (of : Kind) (bytes : List ℕ) (source : Source) : Type 0 where
   pub kind_is : source.kind ≡ of
+  pub ignored : source.ignored.items ≡ []
+  pub unsure : source.unsure ≡ None
   pub rows : (records : List Record) → AreRecordsOf Comma bytes records → read_as source ≡ rows_of of records
   pub multiline : (records : List Record) → AreRecordsOf Comma bytes records
       → source.multiline.items ≡ multiline_if source.rows records
-
-module _ {R : Type 0} (gives : R → (path : List ℕ) → Result (List ℕ) Error → Type 0) (place : R) where
-  -- the file at this path was read, and its bytes say this
-  abbrev pub IsReadFrom : Kind → (path : List ℕ) → Source → Type 0
-  IsReadFrom of path source = (bytes : List ℕ) × gives place path (Ok bytes) × Says of bytes source
-
-  -- the same of a file that may not be named; without a file there is nothing
-  abbrev pub IsReadIfNamed : Kind → Option (List ℕ) → Option Source → Type 0
-  IsReadIfNamed of None None = ⊤
-  IsReadIfNamed of (Some path) (Some source) = IsReadFrom of path source
-  IsReadIfNamed of _ _ = ⊥
-
-  -- the file at this path couldn't be read, for this reason; or memory ran out
-  abbrev pub FailsBy : (path : List ℕ) → Error → Type 0
-  FailsBy path error = gives place path (Err error) ⊎ (error_kind error ≡ io.OutOfMemory)
-
-  abbrev pub FailsAt : Kind → (path : List ℕ) → UnreadFile → Type 0
-  FailsAt of path unread = (unread.kind ≡ of) × FailsBy path unread.error
-
-  abbrev pub FailsIfNamed : Kind → Option (List ℕ) → UnreadFile → Type 0
-  FailsIfNamed of None unread = ⊥
-  FailsIfNamed of (Some path) unread = FailsAt of path unread
-
-  -- each source is of its own file; or one of the files couldn't be read
-  abbrev pub ReadsSources : (users : List ℕ) → (groups : Option (List ℕ)) → Result Sources UnreadFile → Type 0
-  ReadsSources users groups (Ok sources) = IsReadFrom kinds.User users sources.users
-      × IsReadIfNamed kinds.Group groups sources.groups
-  ReadsSources users groups (Err unread) = FailsAt kinds.User users unread ⊎ FailsIfNamed kinds.Group groups unread
 
 -- ---- what files are called
 

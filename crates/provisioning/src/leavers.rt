@@ -3,16 +3,16 @@ ghost use Rattle.std.specs.Prelude.{◌≡◌, IfOk, None};
 ghost use Rattle.std.specs.List.{count_by};
 ghost use Rattle.std.specs.Option.{option_copied};
 ghost use Rattle.connector_core.specs.Maps.{book_of};
+ghost use Rattle.connector_core.specs.State.{IsOpened};
 ghost use Rattle.journal_core.specs.Calls.{Reads};
-ghost use Rattle.provisioning.specs.DryRuns.{IsOver};
-ghost use Rattle.provisioning.specs.Leavers.{CountsIn, CountsOf, CountsOver, NoFewer, has_left, is_in_use, is_switched_off, names_in_use};
+ghost use Rattle.provisioning.specs.Leavers.{CountsIn, NoFewer, has_left, is_in_use, is_switched_off, names_in_use};
 
 use crate::dry_runs::{fault_of, open_copy};
 use crate::faults::RunFault;
 use crate::offering::{Hear, Judged, offer_all};
 use crate::sources::Sources;
 use connector_core::Connector;
-use journal_core::{Entry, Journal, MemoryJournal};
+use journal_core::{Journal, MemoryJournal};
 use scim_key::{RecordName, Revision};
 use source_csv::Row;
 use std::alloc::{AllocError, Global};
@@ -30,44 +30,34 @@ impl Hear for Silent {
     }
 }
 
-/// How many users a run over these files would switch off. A revision is confirmed of each of them, they aren't known
-/// to be off, and the row that is wanted after the files says that they left and isn't confirmed. The journal is only
-/// read.
-pub fn count_leavers<J: Journal>(
+/// A connector over a copy of the journal's entries. The journal is only read.
+pub fn copy_of<J: Journal>(
     alloc: Global,
     journal: &mut J,
-    sources: &Sources,
-) -> Result<usize, RunFault>
-    ensures counts { IfOk result (CountsOver J.Journal ⟦<MemoryJournal as Journal>⟧ sources.now
-        journal.old journal.new) }
+) -> Result<Connector<MemoryJournal>, RunFault>
+    ensures copies { IfOk result
+        (λ copy. J.is_faithful journal.new → IsOpened (J.entries journal.old) copy.book) }
     ensures reads { Reads J.Journal NoFewer journal.old journal.new result }
 {
     match journal.load() {
-        Ok(entries) => count_of(alloc, entries, sources),
+        Ok(entries) => open_copy(alloc, entries),
         Err(fault) => Err(fault_of(fault)),
     }
 }
 
-/// The same for the entries of a journal.
-fn count_of(alloc: Global, entries: Vec<Entry>, sources: &Sources) -> Result<usize, RunFault>
-    ensures { IfOk result
-        (CountsOf ⟦<MemoryJournal as Journal>⟧ sources.now (IsOver entries.items)) }
-{
-    let mut connector = open_copy(alloc, entries)?;
-    count_in(alloc, &mut connector, sources)
-}
-
-/// The same for the records of a connector, to which the rows are offered.
-fn count_in<J: Journal>(
+/// How many users a run over these files would switch off, by a connector over a copy of the journal's entries, which
+/// gets the rows. A revision is confirmed of each of these users, they aren't known to be off, and the row that is
+/// wanted after the files says that they left and isn't confirmed.
+pub fn count_leavers<J: Journal>(
     alloc: Global,
-    connector: &mut Connector<J>,
+    copy: &mut Connector<J>,
     sources: &Sources,
 ) -> Result<usize, RunFault>
-    ensures { IfOk result (CountsIn J.Journal sources.now connector.old connector.new) }
+    ensures { IfOk result (CountsIn J.Journal sources.now copy.old copy.new) }
 {
-    let names = names_in_use(connector)?;
-    match offer_all(alloc, connector, sources, &mut Silent) {
-        Ok(_is_taken) => Ok(switched_off(connector, names.as_slice())),
+    let names = names_in_use(copy)?;
+    match offer_all(alloc, copy, sources, &mut Silent) {
+        Ok(_is_taken) => Ok(switched_off(copy, names.as_slice())),
         Err(fault) => Err(fault),
     }
 }

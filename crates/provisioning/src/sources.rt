@@ -2,10 +2,15 @@
 ghost use Rattle.std.specs.Prelude.{◌≡◌, IfOk, MatchResult, is_ok};
 ghost use Rattle.std.specs.List.{list_all};
 ghost use Rattle.scim_key.specs.declared.records.Kind.TheVariants.{Group};
-ghost use Rattle.provisioning.specs.Sources.{FailsAt, FailsBy, FailsIfNamed, IsReadFrom, IsReadIfNamed, ReadsSources, Says, are_whole, is_whole, label, path_in, records_of};
+ghost use Rattle.provisioning.specs.Reading.{FailsAt, FailsBy, FailsIfNamed, IsReadFrom, IsReadIfNamed, ReadsSources, SaysAs};
+ghost use Rattle.provisioning.specs.Sources.{IsWithoutRows, Says, are_whole, is_whole, label, path_in, records_of};
+ghost use Rattle.provisioning.specs.Today.{numbering_in};
 
+use crate::doubts::{tell_ignored, tell_unsure};
 use crate::files::ReadFiles;
+use crate::today::{Today, read_today};
 use scim_key::Kind;
+use snapshots::Unsure;
 use source_csv::{Multiline, Row, RowFault, SourceFault, SourceFile, SourceRows, read_file};
 use std::alloc::{AllocError, Global};
 use std::io;
@@ -19,6 +24,10 @@ pub struct Source {
     pub rows: Option<SourceRows>,
     /// Those with a field over several lines, in order.
     pub multiline: Vec<Multiline>,
+    /// The names of the columns of a snapshot that are ignored, as its header spells them.
+    pub ignored: Vec<Vec<u8>>,
+    /// Why it isn't certain who is absent from a snapshot, so that nobody who is absent is switched off.
+    pub unsure: Option<Unsure>,
 }
 
 /// The files of a run.
@@ -53,12 +62,12 @@ impl Source {
         }
     }
 
-    /// Whether the file has its header, and each of its records is a row.
+    /// Whether the file has its header, each of its records is a row, and it is certain who is absent.
     pub fn is_whole(&self) -> bool
         ensures { result ≡ is_whole self.now }
     {
         match &self.rows {
-            Some(rows) => all_rows(rows.as_slice()),
+            Some(rows) => all_rows(rows.as_slice()) && self.unsure.is_none(),
             None => false,
         }
     }
@@ -76,8 +85,21 @@ impl Sources {
     }
 }
 
-/// Reads a file of this type from these bytes.
-pub fn read_source(alloc: Global, kind: Kind, bytes: &[u8]) -> Result<Source, AllocError>
+/// A file of this type whose header is wrong.
+pub(crate) fn without_rows(alloc: Global, kind: Kind) -> Source
+    ensures { IsWithoutRows kind result }
+{
+    Source {
+        kind,
+        rows: None,
+        multiline: Vec::new(alloc),
+        ignored: Vec::new(alloc),
+        unsure: None,
+    }
+}
+
+/// Reads a file of revisions of this type from these bytes.
+fn read_revisions(alloc: Global, kind: Kind, bytes: &[u8]) -> Result<Source, AllocError>
     ensures { IfOk result (Says kind bytes.now) }
 {
     match read_file(alloc, kind, bytes) {
@@ -85,27 +107,43 @@ pub fn read_source(alloc: Global, kind: Kind, bytes: &[u8]) -> Result<Source, Al
             kind,
             rows: Some(rows),
             multiline,
+            ignored: Vec::new(alloc),
+            unsure: None,
         }),
-        Err(SourceFault::Header) => Ok(Source {
-            kind,
-            rows: None,
-            multiline: Vec::new(alloc),
-        }),
+        Err(SourceFault::Header) => Ok(without_rows(alloc, kind)),
         Err(SourceFault::Memory) => Err(AllocError),
     }
 }
 
-/// Reads the files, the one of users first. It reports on standard error which records are rejected,
-/// and which have a field over several lines.
+/// Reads a file of this type from these bytes: a snapshot, if something numbers it.
+pub fn read_source(
+    alloc: Global,
+    kind: Kind,
+    bytes: &[u8],
+    today: Option<Today<'_>>,
+) -> Result<Source, AllocError>
+    ensures { IfOk result (SaysAs (numbering_in today) kind bytes.now) }
+{
+    match today {
+        Some(today) => read_today(alloc, kind, bytes, today),
+        None => read_revisions(alloc, kind, bytes),
+    }
+}
+
+/// Reads the files, the one of users first: snapshots, if something numbers them. It reports on standard error which
+/// records are rejected, and which have a field over several lines; and of a snapshot which columns are ignored, and
+/// why nobody who is absent is switched off, if so.
 pub fn read_sources<R: ReadFiles + Eprint + AllocGlobal>(
     rt: &R,
     users: &str,
     groups: Option<&str>,
+    today: Option<Today<'_>>,
 ) -> Result<Sources, UnreadFile>
-    ensures { ReadsSources R.gives rt.now users.now (path_in groups.entry) result }
+    ensures { ReadsSources R.gives rt.now (numbering_in today) users.now (path_in groups.entry)
+        result }
 {
-    let users = source_in(rt, Kind::User, users)?;
-    let groups = groups_in(rt, groups)?;
+    let users = source_in(rt, Kind::User, users, today)?;
+    let groups = groups_in(rt, groups, today)?;
     Ok(Sources { users, groups })
 }
 
@@ -113,14 +151,16 @@ pub fn read_sources<R: ReadFiles + Eprint + AllocGlobal>(
 fn groups_in<R: ReadFiles + Eprint + AllocGlobal>(
     rt: &R,
     groups: Option<&str>,
+    today: Option<Today<'_>>,
 ) -> Result<Option<Source>, UnreadFile>
-    ensures { MatchResult result (IsReadIfNamed R.gives rt.now Group (path_in groups.entry))
+    ensures { MatchResult result
+        (IsReadIfNamed R.gives rt.now (numbering_in today) Group (path_in groups.entry))
         (FailsIfNamed R.gives rt.now Group (path_in groups.entry)) }
 {
     let Some(path) = groups else {
         return Ok(None);
     };
-    match source_in(rt, Kind::Group, path) {
+    match source_in(rt, Kind::Group, path, today) {
         Ok(source) => Ok(Some(source)),
         Err(unread) => Err(unread),
     }
@@ -131,11 +171,12 @@ fn source_in<R: ReadFiles + Eprint + AllocGlobal>(
     rt: &R,
     kind: Kind,
     path: &str,
+    today: Option<Today<'_>>,
 ) -> Result<Source, UnreadFile>
-    ensures { MatchResult result (IsReadFrom R.gives rt.now kind path.now)
+    ensures { MatchResult result (IsReadFrom R.gives rt.now (numbering_in today) kind path.now)
         (FailsAt R.gives rt.now kind path.now) }
 {
-    match told_source(rt, kind, path) {
+    match told_source(rt, kind, path, today) {
         Ok(source) => Ok(source),
         Err(error) => Err(UnreadFile { kind, error }),
     }
@@ -146,14 +187,19 @@ fn told_source<R: ReadFiles + Eprint + AllocGlobal>(
     rt: &R,
     kind: Kind,
     path: &str,
+    today: Option<Today<'_>>,
 ) -> io::Result<Source>
-    ensures { MatchResult result (IsReadFrom R.gives rt.now kind path.now)
+    ensures { MatchResult result (IsReadFrom R.gives rt.now (numbering_in today) kind path.now)
         (FailsBy R.gives rt.now path.now) }
 {
     let bytes = rt.bytes_at(path)?;
-    let source = read_source(rt.alloc(), kind, bytes.as_slice())?;
+    let source = read_source(rt.alloc(), kind, bytes.as_slice(), today)?;
     tell_refused(rt, &source);
     tell_multiline(rt, &source);
+    if today.is_some() {
+        tell_ignored(rt, &source);
+        tell_unsure(rt, &source);
+    }
     Ok(source)
 }
 

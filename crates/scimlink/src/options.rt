@@ -33,6 +33,8 @@ enum Rule {
     Unless(&'static str),
     /// It can't stand beside this one.
     Without(&'static str),
+    /// It can stand only beside this one.
+    With(&'static str),
 }
 
 /// What an option takes.
@@ -42,6 +44,8 @@ enum Value {
     Place,
     /// A text, which the help calls so.
     Text(&'static str),
+    /// The same, as often as wanted.
+    Texts(&'static str),
     /// The base of a service.
     Base,
     /// A whole number of at most 32 bits.
@@ -144,6 +148,30 @@ static COMMANDS: &[CommandText] = &[
                 help: Help::Text("the provider's address"),
             },
             BASE,
+            OptionText {
+                name: "snapshot",
+                value: Value::Nothing,
+                rule: Rule::With("most-leavers"),
+                help: Help::Text(
+                    "the files say all that holds today, without revisions: who is absent left",
+                ),
+            },
+            OptionText {
+                name: "column",
+                value: Value::Texts("OURS=THEIRS"),
+                rule: Rule::With("snapshot"),
+                help: Help::Text(
+                    "the name of our column in the header of a snapshot, as mail=E-Mail",
+                ),
+            },
+            OptionText {
+                name: "separator",
+                value: Value::Text("NAME"),
+                rule: Rule::With("snapshot"),
+                help: Help::Text(
+                    "what separates the fields of a snapshot: comma, semicolon or tab",
+                ),
+            },
             OptionText {
                 name: "plan",
                 value: Value::Nothing,
@@ -316,6 +344,7 @@ fn ruled<'a>(arg: Arg<'a>, rule: Rule) -> Result<Arg<'a>, AllocError> {
         Rule::Optional => Ok(arg),
         Rule::Unless(other) => arg.required_unless_present(other),
         Rule::Without(other) => arg.conflicts_with(other),
+        Rule::With(other) => arg.requires_arg(other),
     }
 }
 
@@ -337,7 +366,7 @@ fn taking<'a>(arg: Arg<'a>, option: OptionText) -> Arg<'a> {
 /// What the help calls the value.
 fn value_name(option: OptionText) -> &'static str {
     match option.value {
-        Value::Text(name) => name,
+        Value::Text(name) | Value::Texts(name) => name,
         Value::Base => "URL",
         Value::Count => "N",
         Value::Seed => "S",
@@ -348,7 +377,7 @@ fn value_name(option: OptionText) -> &'static str {
 /// How the value is read.
 fn parser_of(value: Value) -> ValueParser<'static> {
     match value {
-        Value::Place | Value::Text(_) | Value::Base => ValueParser::String,
+        Value::Place | Value::Text(_) | Value::Texts(_) | Value::Base => ValueParser::String,
         Value::Count => value_parser!(u32),
         Value::Seed => value_parser!(u64),
         Value::Nothing => ValueParser::Bool,
@@ -358,6 +387,7 @@ fn parser_of(value: Value) -> ValueParser<'static> {
 fn action_of(value: Value) -> ArgAction {
     match value {
         Value::Nothing => ArgAction::SetTrue,
+        Value::Texts(_) => ArgAction::Append,
         _ => ArgAction::Set,
     }
 }
