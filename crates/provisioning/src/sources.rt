@@ -122,7 +122,7 @@ pub fn read_source(
     bytes: &[u8],
     today: Option<Today<'_>>,
 ) -> Result<Source, AllocError>
-    ensures { IfOk result (SaysAs (numbering_in today) kind bytes.now) }
+    ensures { IfOk result (SaysAs (numbering_in today.entry) kind bytes.now) }
 {
     match today {
         Some(today) => read_today(alloc, kind, bytes, today),
@@ -139,7 +139,7 @@ pub fn read_sources<R: ReadFiles + Eprint + AllocGlobal>(
     groups: Option<&str>,
     today: Option<Today<'_>>,
 ) -> Result<Sources, UnreadFile>
-    ensures { ReadsSources R.gives rt.now (numbering_in today) users.now (path_in groups.entry)
+    ensures { ReadsSources R.gives rt.now (numbering_in today.entry) users.now (path_in groups.entry)
         result }
 {
     let users = source_in(rt, Kind::User, users, today)?;
@@ -154,7 +154,7 @@ fn groups_in<R: ReadFiles + Eprint + AllocGlobal>(
     today: Option<Today<'_>>,
 ) -> Result<Option<Source>, UnreadFile>
     ensures { MatchResult result
-        (IsReadIfNamed R.gives rt.now (numbering_in today) Group (path_in groups.entry))
+        (IsReadIfNamed R.gives rt.now (numbering_in today.entry) Group (path_in groups.entry))
         (FailsIfNamed R.gives rt.now Group (path_in groups.entry)) }
 {
     let Some(path) = groups else {
@@ -173,7 +173,7 @@ fn source_in<R: ReadFiles + Eprint + AllocGlobal>(
     path: &str,
     today: Option<Today<'_>>,
 ) -> Result<Source, UnreadFile>
-    ensures { MatchResult result (IsReadFrom R.gives rt.now (numbering_in today) kind path.now)
+    ensures { MatchResult result (IsReadFrom R.gives rt.now (numbering_in today.entry) kind path.now)
         (FailsAt R.gives rt.now kind path.now) }
 {
     match told_source(rt, kind, path, today) {
@@ -189,7 +189,7 @@ fn told_source<R: ReadFiles + Eprint + AllocGlobal>(
     path: &str,
     today: Option<Today<'_>>,
 ) -> io::Result<Source>
-    ensures { MatchResult result (IsReadFrom R.gives rt.now (numbering_in today) kind path.now)
+    ensures { MatchResult result (IsReadFrom R.gives rt.now (numbering_in today.entry) kind path.now)
         (FailsBy R.gives rt.now path.now) }
 {
     let bytes = rt.bytes_at(path)?;

@@ -44,7 +44,7 @@ pub(crate) fn read_today(
     bytes: &[u8],
     today: Today<'_>,
 ) -> Result<Source, AllocError>
-    ensures { IfOk result (SaysToday (view_of today) kind bytes.now) }
+    ensures { IfOk result (SaysToday (view_of today.entry) kind bytes.now) }
 {
     match read_snapshot(alloc, kind, today.layouts.of(kind), bytes) {
         Ok(file) => numbered(alloc, kind, file, today.connector),
