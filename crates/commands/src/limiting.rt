@@ -60,7 +60,7 @@ fn within<R: Runtime + AllocGlobal>(
     match count_leavers(rt.alloc(), copy, &sources) {
         Ok(count) if tell_excess(rt, count, Some(most)) => Ok(None),
         Ok(_count) => Ok(Some(sources)),
-        Err(fault) => Err(CommandFault::from(fault)),
+        Err(why) => Err(CommandFault::from(why)),
     }
 }
 
