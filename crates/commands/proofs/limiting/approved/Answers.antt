@@ -1,10 +1,8 @@
 use Rattle.std.proofs.Common.{refl}
-use Rattle.commands.proofs.RunLemmas.{if_ok}
 use Rattle.commands.proofs.limiting.approved.Goals as goal
 
 pub returns-in-Some-clause-approves : goal.returns-in-Some-clause-approves
-returns-in-Some-clause-approves g c =
-    rw c.in-Some.is (if_ok c.within.result (λ kept is. (c.in_ok-sources.sources, c.in_ok-sources.ensures, is)) c.within.ensures.within)
+returns-in-Some-clause-approves g c = rw c.in-Some.is c.approved_over.ensures.approves
 
 pub returns-in-None-clause-approves : goal.returns-in-None-clause-approves
 returns-in-None-clause-approves g c = rw c.in-None.is (c.in_ok-sources.sources, c.in_ok-sources.ensures, refl)
