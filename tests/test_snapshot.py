@@ -159,10 +159,10 @@ class GroupTest(SnapshotTest):
 class RevisionTest(SnapshotTest):
     def test_the_revision_after_the_last_of_an_epoch(self):
         largest = {"revision": 2_000_000_000, "confirmed": 2_000_000_000}
-        later = largest | {"epoch": 6, "confirmed_epoch": 6}
+        later = largest | {"epoch": 999_998, "confirmed_epoch": 999_998}
         self.keep(("ann", largest), ("bob", later), ("cid", {"revision": 1_999_999_999}))
         self.users_say("login,mail", "ann,ann@x")
-        lines = ["user ann 2000000000 to 1:1 active", "user bob 6:2000000000 to 7:1 left"]
+        lines = ["user ann 2000000000 to 1:1 active", "user bob 999998:2000000000 to 999999:1 left"]
         self.plans(*lines, "user cid 1999999999 to 2000000000 left")
 
     def test_the_revision_after_the_last_one(self):

@@ -73,7 +73,8 @@ class ColumnTest(SnapshotTest):
         self.plans("user ann new 1 active", "group crew new 1 members=1", errors=errors, options=options)
 
     def test_separators(self):
-        row = ["Mail", "login", "number", "given", "family"], ["ann@x", '"ann"', "1001", "Ann", "Lee"]
+        header = ["department", "Mail", "login", "number", "given", "family"]
+        row = header, ["", "ann@x", '"ann"', "1001", "Ann", "Lee"]
         for name, sign in ("comma", ","), ("semicolon", ";"), ("tab", "\t"):
             with self.subTest(name):
                 content = text(*(sign.join(fields) for fields in row)).encode()
