@@ -1,13 +1,13 @@
 #!/usr/bin/env python3
-"""Measures a second, unchanged snapshot against a plain push of the same users as a file of revisions.
+"""Measures a second, unchanged snapshot against a plain push of the same users as a file with revisions.
 
     make build && python3 bench/snapshot.py [--records N] [--rounds N] [--folder FOLDER]
 
-The journal has all users confirmed, so neither push sends anything. Each round runs both in turn, over the same
-journal, and who is first changes from round to round. It prints the median time and the median peak memory of each,
-and the median of the rounds' ratios, snapshot to plain push, with the least and the greatest. Files are in FOLDER, else
-on /dev/shm. Status 1: a push doesn't print that all are confirmed, or the ratio of the times or that of the memory is
-above 1.3.
+The journal has all users confirmed, so no push sends anything. Each round runs all in turn, over the same journal, and
+who is first changes from round to round. It prints the median time and the median peak memory of each, and the median
+of the rounds' ratios, snapshot to the other, with the least and the greatest. A snapshot needs --most-leavers, which
+costs something by itself, so a plain push with it is measured too. Files are in FOLDER, else on /dev/shm. Status 1: a
+push doesn't print that all are confirmed, or the time or the memory is above 1.3 times that of the plain push.
 """
 import argparse
 import os
@@ -26,7 +26,13 @@ RECORDS, MOST = 100_000, 1.3
 # An address on which nothing listens
 NOWHERE = "127.0.0.1:1"
 COLUMNS = "login,{}number,given,family,mail,status\n"
-NAMES = {"snapshot": "unchanged snapshot", "plain": "plain push"}
+THRESHOLD = ["--most-leavers", "0"]
+# What is measured: its name in a line, its file, and its options
+WORKS = {
+    "snapshot": ("unchanged snapshot", "export", ["--snapshot", *THRESHOLD]),
+    "plain": ("plain push", "revisions", []),
+    "threshold": ("plain push with --most-leavers", "revisions", THRESHOLD),
+}
 
 
 def write_file(path, count, revision):
@@ -47,12 +53,12 @@ def confirm_all(journal):
 class Bench:
     def __init__(self, room, records):
         self.room, self.records, self.journal = room, records, room / "journal"
-        for name, revision in (("plain", "1,"), ("snapshot", "")):
+        for name, revision in (("revisions", "1,"), ("export", "")):
             write_file(room / name, records, revision)
 
     def words(self, name):
-        options = ["--snapshot", "--most-leavers", "0"] if name == "snapshot" else []
-        return [program(), "push", *options, "--users", self.room / name, "--journal", self.journal, "--to", NOWHERE,
+        _, file, options = WORKS[name]
+        return [program(), "push", *options, "--users", self.room / file, "--journal", self.journal, "--to", NOWHERE,
                 "--quiet"]
 
     def run(self, name):
@@ -74,22 +80,23 @@ class Bench:
     def rounds(self, count):
         for number in range(count):
             found = {}
-            for name in list(NAMES)[:: 1 if number % 2 else -1]:
+            for name in list(WORKS)[:: 1 if number % 2 else -1]:
                 status, said, seconds, memory = self.run(name)
                 if (status, said) != (0, f"{self.records} confirmed, 0 unconfirmed, 0 rejected\n"):
-                    sys.exit(f"the {NAMES[name]} ended with status {status}: {said[:200]}")
+                    sys.exit(f"{WORKS[name][0]}: status {status}, {said[:200]}")
                 found[name] = {"time": seconds, "memory": memory}
             yield found
 
 
 def show(what, unit, found):
-    """Prints the medians of the rounds: the ratio."""
-    rounds = [{name: it[name][what] for name in NAMES} for it in found]
-    ratio, least, greatest = medians(rounds, "snapshot", "plain")
-    middle = {name: statistics.median(it[name] for it in rounds) for name in NAMES}
-    shown = ", ".join(f"{NAMES[name]} {middle[name]:.3g} {unit}" for name in NAMES)
-    print(f"{what}: {shown}, ratio {ratio:.2f} ({least:.2f} to {greatest:.2f})", flush=True)
-    return ratio
+    """Prints the medians of the rounds: the ratio to a plain push."""
+    rounds = [{name: it[name][what] for name in WORKS} for it in found]
+    ratios = {name: medians(rounds, "snapshot", name) for name in WORKS}
+    for name, (spelled, _, _) in WORKS.items():
+        middle, (ratio, least, greatest) = statistics.median(it[name] for it in rounds), ratios[name]
+        beside = "" if name == "snapshot" else f", ratio {ratio:.2f} ({least:.2f} to {greatest:.2f})"
+        print(f"{what}, {spelled}: {middle:.3g} {unit}{beside}", flush=True)
+    return ratios["plain"][0]
 
 
 def main():

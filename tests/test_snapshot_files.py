@@ -246,7 +246,7 @@ class ArgumentTest(SnapshotTest):
                 self.assertIn("--snapshot", self.is_rejected(*options, "--most-leavers", "9"))
 
     def test_columns(self):
-        for columns in (["mail"], ["=EMail"], ["title=EMail"], ["revision=EMail"], ["mail=EMail", "mail=Other"], [""]):
+        for columns in (["mail"], ["=EMail"], ["mail="], ["title=EMail"], ["revision=EMail"], ["mail=EMail", "mail=Other"], [""]):
             with self.subTest(columns=columns):
                 options = [f"--column={it}" for it in columns]
                 self.assertEqual(self.is_rejected(*SNAPSHOT, "9", *options), text(COLUMN))
