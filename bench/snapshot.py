@@ -4,10 +4,10 @@
     make build && python3 bench/snapshot.py [--records N] [--rounds N] [--folder FOLDER]
 
 The journal has all users confirmed, so no push sends anything. Each round runs all in turn, over the same journal, and
-who is first changes from round to round. It prints the median time and the median peak memory of each, and the median
-of the rounds' ratios, snapshot to the other, with the least and the greatest. A snapshot needs --most-leavers, which
-costs something by itself, so a plain push with it is measured too. Files are in FOLDER, else on /dev/shm. Status 1: a
-push doesn't print that all are confirmed, or the time or the memory is above 1.3 times that of the plain push.
+who is first changes from round to round. It prints the median time, processor time and peak memory of each, and the
+median of the rounds' ratios, snapshot to the other, with the least and the greatest. A snapshot needs --most-leavers,
+which costs something by itself, so a plain push with it is measured too. Files are in FOLDER, else on /dev/shm. Status
+1: a push doesn't print that all are confirmed, or the time or the memory is above 1.3 times that of the plain push.
 """
 import argparse
 import os
@@ -25,6 +25,7 @@ from parts import medians
 RECORDS, MOST = 100_000, 1.3
 # An address on which nothing listens
 NOWHERE = "127.0.0.1:1"
+COSTS = {"time": "s", "processor time": "s", "memory": "MB"}
 COLUMNS = "login,{}number,given,family,mail,status\n"
 THRESHOLD = ["--most-leavers", "0"]
 # What is measured: its name in a line, its file, and its options
@@ -62,7 +63,7 @@ class Bench:
                 "--quiet"]
 
     def run(self, name):
-        """A whole push: its status, what it prints, its seconds, and its peak memory in MB of 10^6 bytes."""
+        """A whole push: its status, what it prints, and its costs. Memory is in MB of 10^6 bytes."""
         with open(self.room / "out", "w+b") as out:
             begun = time.perf_counter()
             child = subprocess.Popen([str(word) for word in self.words(name)], stdout=out, stderr=subprocess.STDOUT)
@@ -70,7 +71,9 @@ class Bench:
             child.returncode = os.waitstatus_to_exitcode(status)
             seconds = time.perf_counter() - begun
             out.seek(0)
-            return child.returncode, out.read().decode(), seconds, usage.ru_maxrss * 1024 / 1e6
+            memory, processor = usage.ru_maxrss * 1024 / 1e6, usage.ru_utime + usage.ru_stime
+            costs = {"time": seconds, "processor time": processor, "memory": memory}
+            return child.returncode, out.read().decode(), costs
 
     def prepare(self):
         """A journal that a first snapshot made, and in which all is confirmed."""
@@ -81,10 +84,9 @@ class Bench:
         for number in range(count):
             found = {}
             for name in list(WORKS)[:: 1 if number % 2 else -1]:
-                status, said, seconds, memory = self.run(name)
+                status, said, found[name] = self.run(name)
                 if (status, said) != (0, f"{self.records} confirmed, 0 unconfirmed, 0 rejected\n"):
                     sys.exit(f"{WORKS[name][0]}: status {status}, {said[:200]}")
-                found[name] = {"time": seconds, "memory": memory}
             yield found
 
 
@@ -110,8 +112,8 @@ def main():
         bench.prepare()
         found = list(bench.rounds(given.rounds))
     print(f"{given.records:,} users, {os.cpu_count()} processors, {given.rounds} rounds")
-    ratios = [show("time", "s", found), show("memory", "MB", found)]
-    return 0 if max(ratios) <= MOST else 1
+    ratios = {what: show(what, unit, found) for what, unit in COSTS.items()}
+    return 0 if max(ratios["time"], ratios["memory"]) <= MOST else 1
 
 
 if __name__ == "__main__":
