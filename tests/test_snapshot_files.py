@@ -38,6 +38,10 @@ class ColumnTest(SnapshotTest):
         errors = ["users: ignored columns: Site", "groups: ignored columns: Owner, login"]
         self.plans("user cid new 1 active", errors=errors)
 
+    def test_ignored_columns_with_names_that_are_not_ascii(self):
+        self.users_say("login,Größe,a\\b", "bob,,")
+        self.plans("user bob new 1 active", errors=["users: ignored columns: Gr\\xC3\\xB6\\xC3\\x9Fe, a\\x5Cb"])
+
     def test_the_login_alone(self):
         self.users_say("login", "bob")
         self.carries(2, "bob 1")
