@@ -39,6 +39,13 @@ class MemoryTest(ProgramTest):
         journal = make_journal(self.site.journal)
         self.assert_starves(journal, "push", "--users", users, "--journal", journal, "--to", NOWHERE)
 
+    def test_snapshots(self):
+        self.site.users.write_text(text("login", *NAMES))
+        journal = make_journal(self.site.journal)
+        snapshot = ["push", "--snapshot", "--most-leavers", "0", "--users", self.site.users, "--journal", journal]
+        self.assert_starves(journal, *snapshot, "--to", NOWHERE)
+        self.assert_starves(journal, *snapshot, "--plan")
+
     def test_map_holds_one_record_at_a_time(self):
         self.site.write_users(*(f"{name},1,,,,,active" for name in NAMES))
         run = scimlink("map", self.site.users, **STARVED)

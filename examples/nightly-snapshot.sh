@@ -1,0 +1,39 @@
+#!/bin/sh
+# Pushes an export that says who works here today. For cron, or for a timer of systemd:
+#
+#     nightly-snapshot.sh EXPORT OPTION..
+#
+# The options are those of `scimlink push --snapshot`, all but --users. An export is refused if it is a day old or older,
+# or if it has less than nine tenths of the bytes of the last one: then nothing is pushed, and the status is 1. The last
+# one is EXPORT.pushed, a copy of the last export whose push ended with status 0. Otherwise the status is that of the push.
+set -eu
+PATH=$PATH:/usr/local/bin
+file=$1
+shift
+# what is looked at is what is pushed, whoever writes the file meanwhile
+copy=$file.$$
+trap 'rm -f "$copy"' EXIT
+trap 'exit 1' HUP INT TERM
+
+refuse() {
+    echo "$file $1: nothing was pushed" >&2
+    exit 1
+}
+
+cp -p "$file" "$copy"
+if [ -n "$(find "$copy" -mtime +0)" ]; then
+    refuse "is a day old or older"
+fi
+if [ -e "$file.pushed" ]; then
+    size=$(($(wc -c < "$copy")))
+    last=$(($(wc -c < "$file.pushed")))
+    if [ $((10 * size)) -lt $((9 * last)) ]; then
+        refuse "has $size bytes, and the last one had $last"
+    fi
+fi
+status=0
+scimlink push --snapshot --users "$copy" "$@" || status=$?
+if [ "$status" -eq 0 ]; then
+    mv "$copy" "$file.pushed"
+fi
+exit "$status"
