@@ -80,21 +80,24 @@ pub record IsLayout (of : Kind) (separator : Separator) (texts : List (List ℕ)
   pub separated : layout.separator ≡ separator
   pub renamed : map view_of layout.aliases.items ≡ filter_map (alias_in of) texts
 
--- the snapshots are laid out as these arguments say
-pub record AreLayouts (found : Found) (layouts : Layouts) : Type 0 where
-  pub separator : Separator
-  pub separated : wanted_separator (first_value found (codes "separator")) ≡ Ok separator
-  pub columns : are_columns (column_texts found) ≡ true
-  pub users : IsLayout kind.User separator (column_texts found) layouts.users
-  pub groups : IsLayout kind.Group separator (column_texts found) layouts.groups
+-- the snapshots are laid out by this separator and these values; or one of these is no column, or memory ran out
+abbrev pub LaysOut : Separator → (texts : List (List ℕ)) → Result Layouts CommandFault → Type 0
+LaysOut separator texts (Ok layouts) = (are_columns texts ≡ true)
+    × IsLayout kind.User separator texts layouts.users × IsLayout kind.Group separator texts layouts.groups
+LaysOut separator texts (Err why) = ((why ≡ fault.Column) × (are_columns texts ≡ false)) ⊎ (why ≡ fault.Memory)
 
--- these are no layouts: there is no such separator or column, or memory ran out
-abbrev pub IsWrongLayout : Found → CommandFault → Type 0
-IsWrongLayout found why = (wanted_separator (first_value found (codes "separator")) ≡ Err why)
-    ⊎ (((why ≡ fault.Column) × (are_columns (column_texts found) ≡ false)) ⊎ (why ≡ fault.Memory))
+-- by the separator that the arguments name
+abbrev pub LaysOutBy : Result Separator CommandFault → (texts : List (List ℕ)) → Result Layouts CommandFault → Type 0
+LaysOutBy (Ok separator) texts result = LaysOut separator texts result
+LaysOutBy (Err wrong) texts result = result ≡ Err wrong
+
+-- the layouts of snapshots, or what is wrong with the arguments
+abbrev pub GivesLayoutsOf : Found → Result Layouts CommandFault → Type 0
+GivesLayoutsOf found result =
+    LaysOutBy (wanted_separator (first_value found (codes "separator"))) (column_texts found) result
 
 -- none, if the files aren't snapshots
 abbrev pub GivesLayouts : Found → Result (Option Layouts) CommandFault → Type 0
 GivesLayouts found (Ok None) = is_snapshot found ≡ false
-GivesLayouts found (Ok (Some layouts)) = (is_snapshot found ≡ true) × AreLayouts found layouts
-GivesLayouts found (Err why) = (is_snapshot found ≡ true) × IsWrongLayout found why
+GivesLayouts found (Ok (Some layouts)) = (is_snapshot found ≡ true) × GivesLayoutsOf found (Ok layouts)
+GivesLayouts found (Err why) = (is_snapshot found ≡ true) × GivesLayoutsOf found (Err why)

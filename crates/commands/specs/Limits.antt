@@ -1,6 +1,5 @@
 -- A push, which may switch off only so many users if there is a limit.
 use Rattle.std.specs.Prelude.{◌≡◌, ◌⊎◌, ◌≤◌, ℕ, Bool, false, List, Option, Some, None, Result, Ok, Err, nat_lt, if◌then◌else◌}
-use Rattle.std.specs.declared.io.Error.{Error}
 use Rattle.journal_core.specs.Calls.{Reads}
 use Rattle.journal_core.specs.Entries.{EntryMap}
 use Rattle.journal_core.specs.Memory.{MemoryRecord}
@@ -36,8 +35,8 @@ NoFewer old new fault = old ≤ new
 abbrev pub if_within : (most count : ℕ) → Sources → Option Sources
 if_within most count sources = if is_excess count (Some most) then None else Some sources
 
--- The files of a job were read, as snapshots numbered by this connector if they are some; their rows were offered to it,
--- to count whom they switch off; and they stay if these are no more users than this
+-- The files of a job were read, as snapshots numbered by this connector if they are some; their rows were offered to
+-- it, to count whom they switch off; and they stay if these are no more users than this
 pub record IsWithin (h : Journals MemoryRecord) (job : Job) (most : ℕ) (start end : State MemoryRecord)
     (kept : Option Sources) : Type 0 where
   pub sources : Sources

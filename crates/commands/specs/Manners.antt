@@ -42,5 +42,6 @@ pub record IsManner (found : Found) (manner : Manner) : Type 0 where
 abbrev pub GivesManner : Found → Result Manner CommandFault → Type 0
 GivesManner found (Ok manner) = IsManner found manner
 GivesManner found (Err why) =
-    GivesMost (one_text found (codes "most-leavers")) (first_value found (codes "most-leavers")) (is_snapshot found) (Err why)
+    GivesMost (one_text found (codes "most-leavers")) (first_value found (codes "most-leavers")) (is_snapshot found)
+    (Err why)
     ⊎ GivesStreams (first_value found (codes "streams")) (one_text found (codes "streams")) (Err why)

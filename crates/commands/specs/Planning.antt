@@ -22,7 +22,6 @@ use Rattle.commands.specs.Limits.{PushesOver, is_excess}
 use Rattle.commands.specs.Manners.{IsManner}
 use Rattle.commands.specs.Running.{IsJob, ReadsFiles, numbering_of}
 use Rattle.commands.specs.declared.jobs.Job.{Job}
-use Rattle.commands.specs.declared.manners.Delivery.{Delivery}
 use Rattle.commands.specs.declared.manners.Manner.{Manner}
 use Rattle.commands.specs.declared.status.CommandFault.{CommandFault}
 use Rattle.commands.specs.declared.status.CommandFault.TheVariants as fault

@@ -58,7 +58,7 @@ impl<'a> Job<'a> {
         rt: &R,
         today: Option<Today<'_>>,
     ) -> Result<Sources, CommandFault>
-        ensures { ReadsJob R.gives rt.now (numbering_in today) self.now result }
+        ensures { ReadsJob R.gives rt.now (numbering_in today.entry) self.now result }
     {
         Ok(read_sources(rt, self.users, self.groups, today)?)
     }

@@ -3,7 +3,7 @@ ghost use Rattle.std.specs.Prelude.{◌≡◌, ◌==◌, IfOk, codes, filter_map
 ghost use Rattle.std.specs.List.{count_by, list_all};
 ghost use Rattle.clap.specs.Matches.{first_value, found_of, one_text};
 ghost use Rattle.source_csv.specs.Columns.{named};
-ghost use Rattle.commands.specs.Layouts.{GivesLayouts, IsLayout, alias_in, are_columns, column_texts, is_column, is_of_ours, is_once, named_separator, ours_in, same_column, theirs_in, view_of, wanted_separator};
+ghost use Rattle.commands.specs.Layouts.{GivesLayouts, IsLayout, LaysOut, alias_in, are_columns, is_column, is_of_ours, is_once, named_separator, ours_in, same_column, theirs_in, view_of, wanted_separator};
 ghost use Rattle.commands.specs.Simulating.{is_set};
 
 use crate::status::CommandFault;
@@ -40,13 +40,6 @@ fn named_separator(text: &str) -> Result<Separator, CommandFault>
         "tab" => Ok(Separator::Tab),
         _ => Err(CommandFault::Separator),
     }
-}
-
-/// The values of `--column`.
-fn column_texts<'b, 'a>(words: &'b ArgMatches<'a>) -> &'b [&'a str]
-    ensures { named result.now ≡ column_texts (found_of words.now) }
-{
-    words.get_strs("column").unwrap_or(&[])
 }
 
 /// A column of ours, and its name in the header of a snapshot: OURS=THEIRS.
@@ -142,6 +135,19 @@ fn layout_of(
     })
 }
 
+/// How the snapshots are laid out, by the separator and the values of `--column`.
+fn laid_out(alloc: Global, separator: Separator, texts: &[&str]) -> Result<Layouts, CommandFault>
+    ensures { LaysOut separator (named texts.now) result }
+{
+    if !are_columns(texts) {
+        return Err(CommandFault::Column);
+    }
+    Ok(Layouts {
+        users: layout_of(alloc, Kind::User, separator, texts)?,
+        groups: layout_of(alloc, Kind::Group, separator, texts)?,
+    })
+}
+
 /// How the snapshots are laid out, from the arguments. `None` if the files aren't snapshots.
 pub(crate) fn layouts(
     alloc: Global,
@@ -153,12 +159,8 @@ pub(crate) fn layouts(
         return Ok(None);
     }
     let separator = separator(words)?;
-    let texts = column_texts(words);
-    if !are_columns(texts) {
-        return Err(CommandFault::Column);
+    match words.get_strs("column") {
+        Some(texts) => Ok(Some(laid_out(alloc, separator, texts)?)),
+        None => Ok(Some(laid_out(alloc, separator, &[])?)),
     }
-    Ok(Some(Layouts {
-        users: layout_of(alloc, Kind::User, separator, texts)?,
-        groups: layout_of(alloc, Kind::Group, separator, texts)?,
-    }))
 }

@@ -25,7 +25,10 @@ pub(crate) fn approved<R: Runtime + AllocGlobal, J: Journal>(
 {
     match most {
         Some(most) => approved_over(rt, journal, job, most),
-        None => Ok(Some(job.read_files(rt)?)),
+        None => {
+            let sources = job.read_files(rt)?;
+            Ok(Some(sources))
+        }
     }
 }
 

@@ -6,8 +6,8 @@ use Rattle.connection.specs.declared.descriptors.Descriptors.{Descriptors}
 abbrev pub open_count : (waiting searches endings : ℕ) → ℕ
 open_count waiting searches endings = min (min (waiting + searches) (2 ^ 64 - 1) + endings) (2 ^ 64 - 1)
 
--- There is a descriptor for a connection beside so many, and a reserve: there was for as many connections before; or the
--- system was asked now, and had more than the reserve
+-- There is a descriptor for a connection beside so many, and a reserve: there was for as many connections before; or
+-- the system was asked now, and had more than the reserve
 abbrev pub HasReserve : (reserve connections : ℕ) → (old new : Descriptors) → Type 0
 HasReserve reserve connections old new =
     ((connections < old.most_open) × (new ≡ old))

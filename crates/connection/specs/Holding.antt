@@ -63,8 +63,8 @@ looks_before now place connections = sum_by (λ held. if is_time now held then 1
 -- ---- all of them, in the order in which they were accepted
 
 -- the connection at this place was looked at, and no other
-pub record LooksAt {S : Type 0} (remaining : S → Option (List ℕ)) (place : ℕ) (old new : List (Held S)) (is_ready : Bool)
-    : Type 0 where
+pub record LooksAt {S : Type 0} (remaining : S → Option (List ℕ)) (place : ℕ) (old new : List (Held S))
+    (is_ready : Bool) : Type 0 where
   pub there : (d : Held S) → Looks remaining (slice_index_or old place d) (slice_index_or new place d) is_ready
   pub others : (n : ℕ) (d : Held S) → n ≢ place → slice_index_or new n d ≡ slice_index_or old n d
   pub length : length new ≡ length old

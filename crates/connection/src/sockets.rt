@@ -29,9 +29,9 @@ use timed_streams::{Deadline, SharedStream};
 
 /// The connections of a listening socket. Each has this time in all, from when it is accepted. A connection
 /// is given out when its request is whole, is refused by its form, or ends in its midst. One on which none comes is
-/// closed, which is a fault. Meanwhile other connections are accepted and read, answers are sent as their peers take them, and streams that
-/// were served are drained. Each of these has its turn, with a bound on its work. During long searches all but the
-/// reading goes on. The system tells which sockets something came on, and others aren't looked at.
+/// closed, which is a fault. Meanwhile other connections are accepted and read, answers are sent as their peers take
+/// them, and streams that were served are drained. Each of these has its turn, with a bound on its work. During long
+/// searches all but the reading goes on. The system tells which sockets something came on, and others aren't looked at.
 pub struct Sockets<'a, L: OpenListener + AsRawFd + Drop, C: Clock + Eprint>
 where
     L::Stream: Read + Write + OpenStream + AsRawFd,

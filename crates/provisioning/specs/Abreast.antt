@@ -55,7 +55,8 @@ module _ {I O J : Type 0} (remaining : I → Option (List ℕ))
       × AllMoved remaining contents g base window users first old between before then tally
       × PushesAbreast remaining contents g base window groups last between new then after more
       × (result ≡ joined tally more))
-      ⊎ ((fault : RunFault) × PartMoved remaining contents g base window users opened old new fault × (result ≡ Err fault))
+      ⊎ ((fault : RunFault) × PartMoved remaining contents g base window users opened old new fault
+      × (result ≡ Err fault))
 
   -- The records of the connector, users and then groups, in this order; or memory ran out before the first of them
   abbrev pub PushesAllAbreast : (leavers_first : Bool) → (opened : List (Opening I O)) → (old new : State J)

@@ -4,7 +4,6 @@ use Rattle.scim_key.specs.declared.records.Kind.{Kind}
 use Rattle.scim_key.specs.declared.records.Kind.TheVariants as kinds
 use Rattle.source_csv.specs.Columns.{Record}
 use Rattle.source_csv.specs.Files.{AreRecordsOf}
-use Rattle.source_csv.specs.Lines.{multiline_of}
 use Rattle.source_csv.specs.Quotes.{is_closed}
 use Rattle.source_csv.specs.Snapshots.{ignored_of, snapshot_of}
 use Rattle.source_csv.specs.declared.faults.RowFault.{RowFault}
@@ -80,6 +79,7 @@ pub record SaysToday (by : Numbering) (of : Kind) (bytes : List ℕ) (source : S
   pub multiline : (records : List Record) → AreRecordsOf (separator_of by of) bytes records
       → source.multiline.items ≡ multiline_if source.rows records
   pub ignored : (records : List Record) → AreRecordsOf (separator_of by of) bytes records
-      → map (λ name. name.items) source.ignored.items ≡ ignored_if source.rows (ignored_of of (aliases_of by of) records)
+      → map (λ name. name.items) source.ignored.items
+      ≡ ignored_if source.rows (ignored_of of (aliases_of by of) records)
   pub unsure : (records : List Record) → AreRecordsOf (separator_of by of) bytes records → source.unsure
       ≡ unsure_for (is_closed (separator_of by of) bytes) (snapshot_of of (aliases_of by of) records)
