@@ -290,7 +290,7 @@ class UnsureTest(SnapshotTest):
         )
 
     def test_a_quote_that_is_open(self):
-        said = f"users: a quote is open at the end: {NOBODY}"
+        said = f"users: a quote may be missing: {NOBODY}"
         # with the file's last byte, within its last record
         self.unsure_of_users(b'login,mail\nann,"ann@x', said, plan=["user ann 1 to 2 active"])
         self.unsure_of_users(
@@ -322,7 +322,7 @@ class UnsureTest(SnapshotTest):
             (b"name,members\ncrew,\n duo,ann\n", empty, "groups record 2: S4", unreadable),
             (b"name,members\ncrew,\n\xff,ann\n", empty, "groups record 2: S3", unreadable),
             (b"name,members\ncrew,\nduo", empty, "groups record 2: S2", unreadable),
-            (b'name,members\ncrew,"', empty, f"groups: a quote is open at the end: {NO_GROUP}"),
+            (b'name,members\ncrew,"', empty, f"groups: a quote may be missing: {NO_GROUP}"),
             (b"name,members\n", [], f"groups: there is no record: {NO_GROUP}"),
             (b"", [], "groups: S1", f"groups: the header isn't that of a snapshot: {NO_GROUP}"),
             (b"members\nann\n", [], "groups: S1", f"groups: the header isn't that of a snapshot: {NO_GROUP}"),

@@ -1,9 +1,10 @@
 -- Snapshots among the files of a run: what holds today, numbered by the wanted rows of a book.
-use Rattle.std.specs.Prelude.{◌≡◌, ℕ, Bool, List, [], Option, Some, None, Result, Ok, Err, map, option_map}
+use Rattle.std.specs.Prelude.{◌≡◌, ◌==◌, ◌&&◌, ℕ, Bool, List, [], length, Option, Some, None, Result, Ok, Err, map, option_map}
 use Rattle.scim_key.specs.declared.records.Kind.{Kind}
 use Rattle.scim_key.specs.declared.records.Kind.TheVariants as kinds
 use Rattle.source_csv.specs.Columns.{Record}
 use Rattle.source_csv.specs.Files.{AreRecordsOf}
+use Rattle.source_csv.specs.Lines.{multiline_of}
 use Rattle.source_csv.specs.Quotes.{is_closed}
 use Rattle.source_csv.specs.Snapshots.{ignored_of, snapshot_of}
 use Rattle.source_csv.specs.declared.faults.RowFault.{RowFault}
@@ -11,6 +12,7 @@ use Rattle.source_csv.specs.declared.faults.SourceFault.{SourceFault}
 use Rattle.source_csv.specs.declared.layouts.Alias.{Alias}
 use Rattle.source_csv.specs.declared.layouts.Layout.{Layout}
 use Rattle.source_csv.specs.declared.layouts.Separator.{Separator}
+use Rattle.source_csv.specs.declared.missing_quotes.Multiline.{Multiline}
 use Rattle.source_csv.specs.declared.rows.Row.{Row}
 use Rattle.source_csv.specs.declared.snapshots.SnapshotFile.{SnapshotFile}
 use Rattle.connector_core.specs.Maps.{BookMap}
@@ -58,6 +60,10 @@ abbrev pub unsure_for : (is_closed : Bool) → Result (List Said) SourceFault �
 unsure_for is_closed (Ok records) = unsure is_closed records
 unsure_for is_closed (Err why) = None
 
+-- no quote is open at the end, and no field goes over several lines: it may have swallowed records, for want of a quote
+abbrev pub are_quotes_whole : (is_closed : Bool) → List Multiline → Bool
+are_quotes_whole is_closed multiline = is_closed && (length multiline == 0)
+
 -- the columns that are ignored; none if the header is wrong
 abbrev pub ignored_if : Option (List (Result Row RowFault)) → (ignored : Record) → Record
 ignored_if (Some rows) ignored = ignored
@@ -66,20 +72,23 @@ ignored_if None ignored = []
 -- a snapshot that was read is numbered by this book
 pub record IsNumbered (of : Kind) (file : SnapshotFile) (book : BookMap) (source : Source) : Type 0 where
   pub kind_is : source.kind ≡ of
-  pub rows : source.rows ≡ Some (numbered_by book of file.records.items file.is_closed)
+  pub rows : source.rows
+      ≡ Some (numbered_by book of file.records.items (are_quotes_whole file.is_closed file.multiline.items))
   pub multiline : source.multiline.items ≡ file.multiline.items
   pub ignored : source.ignored.items ≡ file.ignored.items
-  pub unsure : source.unsure ≡ unsure file.is_closed file.records.items
+  pub unsure : source.unsure ≡ unsure (are_quotes_whole file.is_closed file.multiline.items) file.records.items
 
 -- these bytes of a snapshot, which is numbered so, say this of the records of a type
 pub record SaysToday (by : Numbering) (of : Kind) (bytes : List ℕ) (source : Source) : Type 0 where
   pub kind_is : source.kind ≡ of
   pub rows : (records : List Record) → AreRecordsOf (separator_of by of) bytes records → read_as source
-      ≡ offered_for by.book of (is_closed (separator_of by of) bytes) (snapshot_of of (aliases_of by of) records)
+      ≡ offered_for by.book of (are_quotes_whole (is_closed (separator_of by of) bytes) (multiline_of records))
+      (snapshot_of of (aliases_of by of) records)
   pub multiline : (records : List Record) → AreRecordsOf (separator_of by of) bytes records
       → source.multiline.items ≡ multiline_if source.rows records
   pub ignored : (records : List Record) → AreRecordsOf (separator_of by of) bytes records
       → map (λ name. name.items) source.ignored.items
       ≡ ignored_if source.rows (ignored_of of (aliases_of by of) records)
   pub unsure : (records : List Record) → AreRecordsOf (separator_of by of) bytes records → source.unsure
-      ≡ unsure_for (is_closed (separator_of by of) bytes) (snapshot_of of (aliases_of by of) records)
+      ≡ unsure_for (are_quotes_whole (is_closed (separator_of by of) bytes) (multiline_of records))
+      (snapshot_of of (aliases_of by of) records)

@@ -35,7 +35,7 @@ impl fmt::Display for Doubt {
             Doubt::Of(Unsure::Unreadable { place }) => {
                 write!(f, " record {place} can't be read")
             }
-            Doubt::Of(Unsure::OpenQuote) => f.write_str(": a quote is open at the end"),
+            Doubt::Of(Unsure::OpenQuote) => f.write_str(": a quote may be missing"),
             Doubt::Of(Unsure::NoRecord) => f.write_str(": there is no record"),
         }
     }

@@ -53,7 +53,7 @@ pub(crate) fn read_today(
     }
 }
 
-/// What a snapshot offers.
+/// What a snapshot offers. A field over several lines may have swallowed records, for want of a quote.
 fn numbered(
     alloc: Global,
     kind: Kind,
@@ -68,7 +68,8 @@ fn numbered(
         ignored,
         is_closed,
     } = file;
-    let offered = number(alloc, connector, kind, records, is_closed)?;
+    let are_quotes_whole = is_closed && multiline.is_empty();
+    let offered = number(alloc, connector, kind, records, are_quotes_whole)?;
     let Numbered { rows, unsure } = offered;
     Ok(Source {
         kind,

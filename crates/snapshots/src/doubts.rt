@@ -10,7 +10,7 @@ use source_csv::{Rejected, Row};
 pub enum Unsure {
     /// The name of the record at this place can't be read. It is the first such record, counted from 1.
     Unreadable { place: usize },
-    /// A quote is open at the end of the file.
+    /// A quote is open at the end of the file, or may be missing within it.
     OpenQuote,
     NoRecord,
 }

@@ -25,7 +25,8 @@ pub struct Numbered {
 }
 
 /// Gives the rows of a snapshot of this kind their revisions, by the wanted rows of the connector, and withdraws the
-/// records of this kind that are absent from it. `is_closed` says whether no quote is open at the end of the file.
+/// records of this kind that are absent from it. `is_closed` says whether no quote is open at the end of the file, or
+/// may be missing within it.
 pub fn number<J: Journal>(
     alloc: Global,
     connector: &Connector<J>,
