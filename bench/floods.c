@@ -2,8 +2,8 @@
 /* A crowd of clients for bench/floods.py:
  *   floods KIND PORT FROM SPREAD CLIENTS SECONDS FIRST PACE
  * CLIENTS clients connect, send the text of the file FIRST, and go on by their KIND. If a client is closed or done, it
- * comes again at once. The clients share SPREAD addresses, from FROM on. Once each has sent its text, or after 10 s, the
- * program prints a line with the seconds that this took, and goes on for SECONDS seconds.
+ * comes again at once. The clients share SPREAD addresses, from FROM on. Once each has sent its text, or after 10 s,
+ * the program prints a line with the seconds that this took, and goes on for SECONDS seconds.
  *   ask       reads its answer to the end
  *   drain     once its answer comes, sends blocks of 64 KB for PACE milliseconds
  *   leave     closes as soon as it is connected. At most PACE connections a second are made

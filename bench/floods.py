@@ -30,9 +30,9 @@ long. It takes about 2 minutes for a program; --seconds sets how long each flood
 
 The status is 1 if the program that is named last misses one of these aims beside a flood: a ratio of 0.5, 99 of 100
 answers within 50 ms, each answer within a second, no request without an answer, and at most 48 MB more memory (16 MiB
-for requests, 16 MiB for answers, and the places). Beside searches it has these aims instead: an answer takes at most
-50 ms longer than a search alone, and a search at 127.0.0.3 at most 50 ms longer than three searches. Beside readers
-each of the four also has to get its whole list.
+for requests, 16 MiB for answers, and the places). Beside searches it has these aims instead: no request without an
+answer, an answer takes at most 50 ms longer than a search alone, and a search at 127.0.0.3 at most 50 ms longer than
+three searches. Beside readers each of the four also has to get its whole list.
 """
 import argparse
 import contextlib
@@ -104,8 +104,8 @@ def take_handles():
 
 
 class Flood:
-    """Crowds of clients, each of which has come once when the context begins. They go on for some seconds. `came` is the
-    number of connections that they made since."""
+    """Crowds of clients, each of which has come once when the context begins. They go on for some seconds. `came` is
+    the number of connections that they made since."""
 
     def __init__(self, room, port, crowds, seconds, address="127.0.1.1", spread=SPREAD):
         self.runs, self.came = [], 0
