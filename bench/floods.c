@@ -1,9 +1,9 @@
 #define _GNU_SOURCE
 /* A crowd of clients for bench/floods.py:
  *   floods KIND PORT FROM SPREAD CLIENTS SECONDS FIRST PACE
- * So many clients connect, send the text of the file FIRST, and go on by their KIND. Whoever is closed, or is done,
- * comes again at once. Their addresses are FROM and those after it, SPREAD in all. Once each has sent its text, or after
- * 10 s, it prints a line with the seconds that this took, and goes on for so many seconds.
+ * CLIENTS clients connect, send the text of the file FIRST, and go on by their KIND. If a client is closed or done, it
+ * comes again at once. The clients share SPREAD addresses, from FROM on. Once each has sent its text, or after 10 s,
+ * the program prints a line with the seconds that this took, and goes on for SECONDS seconds.
  *   ask       reads its answer to the end
  *   drain     once its answer comes, sends blocks of 64 KB for PACE milliseconds
  *   leave     closes as soon as it is connected. At most PACE connections a second are made
@@ -11,7 +11,7 @@
  *   stay      does nothing for PACE milliseconds, then closes; if that is 0, it stays
  *   trickle   sends the last byte of FIRST again every PACE milliseconds
  *   unread    as `stay`, with room for few bytes
- * In the end it prints how many connections were made since that line, and how many of them the server ended. */
+ * At its end it prints how many connections were made since that line, and how many of them the server ended. */
 #include <arpa/inet.h>
 #include <netinet/tcp.h>
 #include <stdio.h>

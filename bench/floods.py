@@ -3,12 +3,17 @@
 
     make build && python3 bench/floods.py [FLOOD..] [--all] [--seconds N] [--program PROGRAM]..
 
-For each flood it starts `serve`, and asks for a user again and again, each time 0.3 ms after the last answer: first
-alone, then beside the flood, once each of the flood's clients has come. A line has the answers a second alone and
-beside the flood, and their ratio; the median, the slowest of 100 and of all beside it, in milliseconds; how many
-weren't answered within 5 s (beside searches, within six of them); the megabytes of memory that `serve` took more at
-most; and how many connections a second the flood made. Flood and client are programs in C (floods.c, serve.c), in
-processes of their own. Each flood lasts some seconds, and stays on the loopback interface.
+For each flood it starts `serve`. A client asks for a user again and again, each time 0.3 ms after the last answer: first
+alone, then beside the flood, once each of the flood's clients has come. A line has
+
+- the answers a second alone and beside the flood, and their ratio;
+- the median time of an answer beside the flood, the slowest of 100 and the slowest of all, in milliseconds;
+- how many requests weren't answered within 5 s (beside searches: within the time of six searches);
+- by how many megabytes the memory of `serve` grew at most;
+- how many connections a second the flood made.
+
+Flood and client are programs in C (floods.c, serve.c), in processes of their own. Each flood lasts some seconds, and
+stays on the loopback interface.
 
     newlines   1,000 clients that send 15,000 line ends, and then one every 200 ms
     drains     1,000 clients that ask, and then send blocks of 64 KB for 2 s; with --all also 200
@@ -20,14 +25,14 @@ processes of their own. Each flood lasts some seconds, and stays on the loopback
     readers    200 clients that read 256 bytes of a list every 100 ms, and 100 that ask for one and leave after 100 ms.
                Beside them four read such a list 8 KB at a time, every 250 ms
 
-With --program several times, the programs of several versions are measured in turns, flood by flood. With --all each
-flood lasts twice as long. It takes about 2 minutes for a program; --seconds sets how long each flood is measured.
+With --program several times, it measures each program in turn, flood by flood. With --all each flood lasts twice as
+long. It takes about 2 minutes for a program; --seconds sets how long each flood is measured.
 
-Status 1, by the program that is named last: beside a flood the ratio is below 0.5, one of 100 answers takes longer
-than 50 ms, one of all longer than a second, or one isn't answered; or memory grows by over 48 MB (16 MiB for requests,
-16 MiB for answers, and the places). Beside searches instead: an answer takes over 50 ms longer than a search takes
-alone, or a search at 127.0.0.3 over 50 ms longer than three of them. Beside readers also: one of the four doesn't
-get its whole list.
+The status is 1 if the program that is named last misses one of these aims beside a flood: a ratio of 0.5, 99 of 100
+answers within 50 ms, each answer within a second, no request without an answer, and at most 48 MB more memory (16 MiB
+for requests, 16 MiB for answers, and the places). Beside searches it has these aims instead: no request without an
+answer, an answer takes at most 50 ms longer than a search alone, and a search at 127.0.0.3 at most 50 ms longer than
+three searches. Beside readers each of the four also has to get its whole list.
 """
 import argparse
 import contextlib
@@ -50,11 +55,11 @@ from slow import FIND, LIST, Server
 PATIENCE, PAUSE = 5, 300
 # The aims: the ratio of speeds; what 99 of 100 answers and all take at most, in milliseconds; and megabytes
 LEAST_RATIO, MOST_OF_99, MOST_OF_ALL, MOST_MEMORY = 0.5, 50, 1_000, 48
-# Searches that take so long one after another may come before an honest client's own search is answered
+# An honest client's own search is answered within the time of so many searches
 SEARCHES_BEFORE = 3
-# Seconds that a flood goes on behind what is measured, and that a client asks alone
+# Seconds for which a flood goes on after the measurement, and for which a client asks alone
 BEHIND, ALONE = 0.5, 2
-# Addresses of the clients of a flood, unless it is of one: a closed connection keeps its port for a minute
+# The number of addresses of a flood, unless it has one: a closed connection keeps its port for a minute
 SPREAD = 16
 USERS, SEARCHER = 100_000, "127.0.0.3"
 SEARCH = b"GET /v2/Users?filter=userName%20co%20%22zz%22 HTTP/1.1\r\nHost: h\r\n\r\n"
@@ -66,7 +71,7 @@ UNFINISHED = HEAD + b"X: " + b"x" * (16_384 - len(HEAD) - 7) + b"\r\n\r\n" + b" 
 
 
 def trickles(count, pace):
-    """So many clients that each send a byte of a head at a pace. Half of them begin with most of a long head."""
+    """Clients that each send a byte of a head at a pace. Half of them begin with most of a long head."""
     return [("trickle", count // 2, b"G", pace), ("trickle", count // 2, MOST_OF_A_HEAD, pace)]
 
 
@@ -93,14 +98,14 @@ def build(room):
 
 
 def take_handles():
-    """Lets this process, and those that it starts, have as many files and sockets open as they may."""
+    """Raises the limit of open files and sockets, for this process and for each that it starts."""
     _, hard = resource.getrlimit(resource.RLIMIT_NOFILE)
     resource.setrlimit(resource.RLIMIT_NOFILE, (hard, hard))
 
 
 class Flood:
-    """Crowds of clients that have come once when its context begins, and go on for some seconds. `came` has how many
-    connections they made since."""
+    """Crowds of clients, each of which has come once when the context begins. They go on for some seconds. `came` is
+    the number of connections that they made since."""
 
     def __init__(self, room, port, crowds, seconds, address="127.0.1.1", spread=SPREAD):
         self.runs, self.came = [], 0

@@ -5,9 +5,9 @@
  *       time, and prints the seconds. The n-th asking has the number (n * STEP) % AMONG; eight `@` in
  *       the request stand for it, eight `#` for the one after it, and twelve `$` for that in hexadecimal.
  *   serve wait PORT CLIENTS SECONDS STATUS REQUEST FROM PATIENCE PAUSE
- *       asks for so many seconds from so many clients at the address FROM, each PAUSE microseconds after its last
- *       answer, and prints how many were answered, how many weren't within PATIENCE seconds or otherwise, and the
- *       milliseconds that half of the answered, that 99 of 100 and that all of them took at most.
+ *       asks for SECONDS seconds from CLIENTS clients at the address FROM, each PAUSE microseconds after its last
+ *       answer. It prints how many requests were answered, and how many weren't, or not within PATIENCE seconds. Then
+ *       it prints within how many milliseconds half of the answers came, 99 of 100, and all.
  *   serve limit COUNT ANSWER [STORE insert|update AMONG]
  *       prints a port, and answers so many connections by the same bytes: what accepting, reading,
  *       writing and closing alone take. With a store, the row of a user is put or changed by SQLite
@@ -74,8 +74,8 @@ static void put(const struct text *form, char *request, const char *marks, const
 static const char *own_address;
 static struct timeval patience;
 
-/* A stream to the port, from the own address, if there is one; each call on it fails after the patience. It is -1 if
- * it can't be set up. */
+/* A stream to the port, or -1 if it can't be set up. If there is an own address, it comes from there, and each call on
+ * it fails after the patience. */
 static int connection(void) {
     struct sockaddr_in to = {.sin_family = AF_INET, .sin_port = htons(port), .sin_addr.s_addr = htonl(INADDR_LOOPBACK)};
     struct sockaddr_in own = {.sin_family = AF_INET};

@@ -1,13 +1,14 @@
 #!/usr/bin/env python3
-"""Measures a second, unchanged snapshot against a plain push of the same users as a file with revisions.
+"""Compares a second, unchanged snapshot with a plain push of the same users as a file with revisions.
 
     make build && python3 bench/snapshot.py [--records N] [--rounds N] [--folder FOLDER]
 
-The journal has all users confirmed, so no push sends anything. Each round runs all in turn, over the same journal, and
-who is first changes from round to round. It prints the median time, processor time and peak memory of each, and the
-median of the rounds' ratios, snapshot to the other, with the least and the greatest. A snapshot needs --most-leavers,
-which costs something by itself, so a plain push with it is measured too. Files are in FOLDER, else on /dev/shm. Status
-1: a push doesn't print that all are confirmed, or the time or the memory is above 1.3 times that of the plain push.
+The journal has all users confirmed, so no push sends anything. Each round runs all of them in turn, over the same
+journal, in the reverse of the last round's order. It prints the median time, processor time and peak memory of each,
+and the median, least and greatest ratio of the snapshot to the other. A snapshot needs --most-leavers, which has its
+own cost, so a plain push with that option is measured too. Files are in FOLDER, else on /dev/shm. The status is 1 if a
+push doesn't print that all are confirmed, or if the snapshot takes more than 1.3 times the time or the memory of the
+plain push.
 """
 import argparse
 import os

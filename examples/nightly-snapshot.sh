@@ -3,14 +3,15 @@
 #
 #     nightly-snapshot.sh EXPORT OPTION..
 #
-# The options are those of `scimlink push --snapshot`, all but --users. An export is refused if it is a day old or older,
-# or if it has less than nine tenths of the bytes of the last one: then nothing is pushed, and the status is 1. The last
-# one is EXPORT.pushed, a copy of the last export whose push ended with status 0. Otherwise the status is that of the push.
+# It takes each option of `scimlink push --snapshot` but --users. It refuses an export that is a day old or older, or
+# that has less than nine tenths of the bytes of the last one: then it pushes nothing, and its status is 1. The last one
+# is EXPORT.pushed, a copy of the last export whose push ended with status 0. If it pushes, its status is that of the
+# push.
 set -eu
 PATH=$PATH:/usr/local/bin
 file=$1
 shift
-# what is looked at is what is pushed, whoever writes the file meanwhile
+# it checks and pushes this copy, so that nobody changes the file in between
 copy=$file.$$
 trap 'rm -f "$copy"' EXIT
 trap 'exit 1' HUP INT TERM

@@ -62,7 +62,7 @@ class Shim:
 
 
 class Number:
-    """A run that shares a number with the test, by this word of tests/shim.c."""
+    """A run that shares a number with the test, by this variable of tests/shim.c."""
 
     def __init__(self, shim, folder, word):
         handle, name = tempfile.mkstemp(dir=folder, prefix="number-")

@@ -11,9 +11,9 @@
                      process ends there: `torn` after half of what it was to write, `cut` as by a cut of
                      the power, which takes back each write that no sync of its file followed
 
-   ACCEPTS           a file of a 64-bit number: so many calls that accept a connection fail for want of a
-                     descriptor, and each counts it down
-   CLOCK             a file of a 64-bit number: by so many nanoseconds the steady clock is ahead
+   ACCEPTS           a file of a 64-bit number N: the next N calls that accept a connection fail as if there
+                     were no descriptor, and each counts N down
+   CLOCK             a file of a 64-bit number N: the steady clock is N nanoseconds ahead
    STREAM_WRITES, STREAM_READS
                      a script, as `STEP PLACE:TIMES:ERROR ..`: each call passes at most STEP bytes; once PLACE
                      bytes have passed, TIMES calls fail with this error number, or pass no byte if it is 0
@@ -47,7 +47,7 @@ static unsigned long long chosen[KINDS];
 static const char *how = "";
 static void read_scripts(void);
 
-/* the content of the file that is named by this word, or nothing if there is no such word */
+/* the content of the file that this variable names, or nothing if it isn't set */
 static void *shared(const char *word, size_t size)
 {
     if (!getenv(word))

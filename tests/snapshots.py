@@ -1,10 +1,10 @@
-"""What the tests of snapshots share: files that say all that is true today, and pushes of them."""
+"""What the tests of snapshots share: complete files of today, and pushes of them."""
 from databases import make_journal, user_entry
 from support import resource_id, scimlink, text
 from test_push import PushTest
 
 SNAPSHOT = ["--snapshot", "--most-leavers"]
-# What is said if it isn't certain who is absent
+# What a push says if it isn't certain who is absent
 NOBODY = "nobody who is absent was switched off"
 NO_GROUP = "no group that is absent was emptied"
 
@@ -35,7 +35,7 @@ class SnapshotTest(PushTest):
         self.assertEqual(self.site.files(), before)
 
     def keep(self, *users, groups=()):
-        """A journal with these users, all confirmed at revision 1, but for other columns of each."""
+        """A journal with these users. Each is confirmed at revision 1, unless its columns say otherwise."""
         entries = [
             user_entry(name, **({"confirmed": more.get("revision", 1), "id": resource_id(number)} | more))
             for number, (name, more) in enumerate(users, 1)

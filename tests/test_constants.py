@@ -18,7 +18,7 @@ TIME = re.compile(
     r"(?:\bfn (\w+)\(\) -> Duration\b[^{]*(?:\{[^{}]*\}\s*)*?\{|\bconst ([A-Z][A-Z0-9_]*): Duration =)"
     r"\s*Duration::from_(\w+)\(([0-9_]+)\)\s*[};]"
 )
-# Each of their constants is in the table, but for room that a text is given at first, and the system's error numbers
+# Each of their constants is in the table, except the first room of a text, and error numbers of the system
 CRATES = {"connection", "http_text", "timed_streams"}
 LIMIT = re.compile(r"LIMIT$|^MOST_|^LAST_|_SECONDS$")
 OTHERWISE = re.compile(r"_ROOM$|^E[A-Z]+$")
@@ -37,7 +37,7 @@ def product(terms):
 
 
 def constants():
-    """The values of all constants, and the names of those that the table has to have, each after its crate."""
+    """The values of all constants, and which of them the table must have. Each name begins with its crate."""
     values, wanted = {}, set()
     for path in sorted(TOP.glob("crates/*/src/**/*.rt")):
         crate, text = path.relative_to(TOP / "crates").parts[0], path.read_text(encoding="utf-8")

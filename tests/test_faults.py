@@ -64,7 +64,7 @@ def check_lines(run, fault, lines, status=0, told=()):
 
 
 def show(option, file):
-    """What `show` prints of a file; nothing if there is none, which is a fault of its own."""
+    """What `show` prints of a file. If there is none, it prints nothing and ends with a fault."""
     run = scimlink("show", option, file)
     wanted = (0, "") if file.exists() else (3, "file fault\n")
     check((run.status, without_causes(run.errors)), wanted, f"show {option}")
@@ -86,7 +86,7 @@ def kept(site):
 
 
 def use_up(provider, address):
-    """Asks for what isn't there until a provider has answered its requests."""
+    """Asks for what isn't there, until the provider has answered all its requests and ends."""
     host, _, port = address.rpartition(":")
     while provider.process.poll() is None:
         with contextlib.suppress(OSError), socket.create_connection((host, int(port))) as stream:
@@ -299,7 +299,7 @@ class Job:
         check(order(show("--store", site.store)), order(self.rows), "the store in the end")
 
     def exceed(self, folder, fault):
-        """A push with a fault that would switch off too many users: whatever fails, it takes no row."""
+        """A push with a fault, whose files would switch off too many users. Whatever fails, it takes no row."""
         site = self.start(folder)
         before, excess = show("--journal", site.journal), "1 user would be switched off, more than 0: nothing was done"
         run = site.push(NOWHERE, "--most-leavers", "0", **fault.options)

@@ -1,5 +1,5 @@
-"""`serve`: while a search looks through many rows, others connect, send, and get the rest of their answers. It is
-stopped after its time."""
+"""`serve` during a search of many rows: others connect, send, and get the rest of their answers. It stops the search
+after its time."""
 import contextlib
 import select
 import time
@@ -74,7 +74,7 @@ class LongSearchTest(ProgramTest):
             self.assert_reports(provider.ends(), 0)
 
     def test_a_search_is_stopped_after_its_time(self):
-        """The clock is set ahead while it is under way, so that it needs no rows for so many seconds."""
+        """The test sets the clock ahead during the search, so it needs no store that is slow enough."""
         for seconds, ahead, is_stopped in ((None, 5, False), (None, 10, True), (1, 1, True), (20, 15, False)):
             with self.subTest(seconds=seconds, ahead=ahead):
                 self.assert_ends(["--longest-search", seconds] if seconds else [], ahead, is_stopped)

@@ -49,7 +49,7 @@ class RowsTest(LoopTest):
         )
 
     def test_a_large_group_at_a_higher_revision(self):
-        """The provider's revision is above the source's, so the group isn't confirmed, and is printed so."""
+        """The provider's revision is above the source's, so the group stays unconfirmed."""
         members = [{"value": f"m{number:03}"} for number in range(400)]
         content = {"schemas": [GROUP, SOURCE], SOURCE: {"revision": 5}, "displayName": "crew", "members": members}
         make_store(self.site.store, [(1, 2, "crew", 1, compact(content))])
@@ -228,7 +228,7 @@ class FaultTest(LoopTest):
 
     def test_a_connection_that_cannot_be_opened(self):
         self.writes(["bob,1,,,,,active"])
-        # the three standard ones, the listener, and what watches it
+        # the three standard streams, the listener, and what watches it
         run = self.site.loop(**limited_handles(5))
         self.assert_prints(run, "1 new", status=3, errors=["connection fault"])
 
@@ -276,7 +276,7 @@ class StrayConnectionsTest(LoopTest):
         )
 
     def test_only_this_host_can_connect(self):
-        # 127.0.0.1, of which the system shows the number that the processor has in its memory
+        # 127.0.0.1: the system prints its four bytes as one number of the processor
         self.assertEqual(int(self.address, 16).to_bytes(4, sys.byteorder), bytes([127, 0, 0, 1]))
         self.assert_ends_as_without_them()
 

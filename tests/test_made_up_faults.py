@@ -1,5 +1,5 @@
-"""No fault is made up: out of memory, a fault of a store, of a stream, and of a file or of output each come from a call
-that had it.
+"""No fault is made up: each fault of memory, of a store, of a stream, of a file or of the output comes from a call that
+had it.
 
 No contract can say when memory, a disk or a socket fails, so the prover accepts a body that returns such a fault
 though nothing failed. This test reads the sources instead. A fault comes
@@ -32,7 +32,7 @@ NUMBER = re.compile(r"\bconst ([A-Z][A-Z0-9_]*): \w+ = ([0-9_]+|[^;]*);")
 
 
 def small_constants():
-    """The names of all constants of the crates that are numbers of at most MOST_ROOM, wherever they have that name."""
+    """The names of the crates' constants that are numbers of at most MOST_ROOM in each place that has the name."""
     numbers = collections.defaultdict(list)
     for path in CRATES.glob("*/src/**/*.rt"):
         for name, value in NUMBER.findall(path.read_text(encoding="utf-8")):

@@ -1,4 +1,4 @@
-"""examples/nightly-snapshot.sh: which exports it refuses, and what it keeps of those that it pushes."""
+"""examples/nightly-snapshot.sh: which exports it refuses, and what it keeps of the others."""
 import csv
 import os
 import subprocess
@@ -42,7 +42,7 @@ class NightlyTest(ProgramTest):
         return run.returncode, run.stdout, run.stderr
 
     def write(self, size, *names):
-        """An export of so many bytes, with these users and empty lines."""
+        """An export of this size, with these users and empty lines."""
         content = text("login", *names)
         self.export.write_text(content + "\n" * (size - len(content)))
 
@@ -88,7 +88,7 @@ class NightlyTest(ProgramTest):
         self.is_refused("has 899 bytes, and the last one had 1000")
         self.write(900, "ann", "bob")
         self.is_pushed(2)
-        # the last one is now that of 900 bytes
+        # the last export has 900 bytes
         self.write(810, "ann", "bob")
         self.is_pushed(2)
         self.export.write_bytes(b"")
@@ -103,7 +103,7 @@ class NightlyTest(ProgramTest):
         self.is_pushed(2)
 
     def test_a_push_that_does_not_end_well(self):
-        """The last export stays the one before."""
+        """The copy of the last good export stays."""
         self.write(1000, "ann", "bob", "cid", "dee")
         self.is_pushed(4)
         last = self.pushed.read_bytes()

@@ -1,4 +1,4 @@
-"""The path of a store or a journal: nothing is there, a link, a log whose file is elsewhere, or a file that is lost."""
+"""What is at the path of a store or a journal: nothing, a link, a log without its file, a file that is lost."""
 import os
 import pathlib
 import tempfile
@@ -74,7 +74,7 @@ class Places:
         self.fill()
         self.path.rename(self.moved)
         self.refuses(self.commands, self.damaged, PARTED)
-        # an empty file, by itself or where a link leads, is no better
+        # the same with an empty file, by itself or where a link leads
         self.path.touch()
         self.refuses(self.commands, self.damaged, PARTED)
         self.path.replace(self.folder / "elsewhere")
@@ -86,7 +86,7 @@ class Places:
         self.assert_shows()
 
     def test_a_log_without_changes(self):
-        """A run that came to its end leaves one: whoever removes the file alone begins anew."""
+        """A run that ends by itself leaves such a log. If only the file is removed, the next run makes a new one."""
         self.fill()
         self.assert_shows()
         self.assertEqual(self.log.stat().st_size, EMPTY_LOG)
@@ -96,7 +96,7 @@ class Places:
         self.assertTrue(self.path.is_file())
 
     def fault(self, place):
-        """In a run, no write finds room from this one on."""
+        """From this write on, no write of the run finds room."""
         room = pathlib.Path(self.enterContext(tempfile.TemporaryDirectory()))
         return Fault(build_shim(room), room, "WRITE", place, "28+")
 

@@ -1,4 +1,4 @@
-"""crates.txt: the crates of the connector stand on none of the provider's, and the other way round. And the picture of
+"""crates.txt: the crates of the connector stand on none of the provider's, and the other way round. The picture of
 docs/DEVELOPING.md shows the crates as they are."""
 import pathlib
 import re
@@ -33,13 +33,13 @@ def reached(name, below):
 
 
 def arrows(name, below):
-    """The crates of ours that a crate stands on, but for those that another one of them stands on."""
+    """The crates that a crate uses, without the ones that follow from others."""
     ours = below[name] & set(below)
     return sorted(ours - {it for each in ours for it in reached(each, below)})
 
 
 def picture():
-    """The picture of the crates: a box for each group, and an arrow to what a crate stands on."""
+    """The picture of the crates: a box for each group, and an arrow from a crate to each crate that it uses."""
     rooms, below = groups()
     lines = ["flowchart TD"]
     for number, (room, names) in enumerate(rooms.items()):

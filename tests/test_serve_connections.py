@@ -73,7 +73,7 @@ class ConnectionTest(ProgramTest):
     def test_connections_that_cannot_be_accepted(self):
         with Provider(2) as provider:
             self.assertEqual(provider.exchange(CREATE_BOB), BOB_CREATED)
-            # no more may be open than the standard streams, the listener, and what it is watched by
+            # only the standard streams, the listener and what watches it may be open
             wait_until(lambda: len(os.listdir(f"/proc/{provider.pid}/fd")) == 5, "the end of the connection")
             before = resource.prlimit(provider.pid, resource.RLIMIT_NOFILE)
             resource.prlimit(provider.pid, resource.RLIMIT_NOFILE, (5, before[1]))

@@ -7,9 +7,9 @@ from faults import Fault, Number, Shim, build_shim
 from support import CREATE_BOB, GIVEN_UP, ProgramTest, Provider, limited_handles, wait_until
 from test_slow_clients import FIND_BOB
 
-# Descriptors of a run, and those that it leaves free; clients that are silent, more than it has descriptors for
+# Descriptors of a run, and how many it leaves free; silent clients, more than it has descriptors for
 HANDLES, RESERVE, CLIENTS = 64, 8, 100
-# The seconds for which each connection may wait, whoever else comes, and those between two calls if one failed
+# The seconds that each connection has at least, and the seconds before the next call of accept if one failed
 GRANTED, PAUSE = 0.1, 0.004
 
 
@@ -34,7 +34,7 @@ class ShortagesTest(ProgramTest):
                 stream.settimeout(100 * PAUSE)
                 with self.assertRaises(TimeoutError):
                     stream.recv(1)
-                # it has asked again, and not without a pause
+                # it has asked again, with pauses
                 calls = more - unaccepted.value
                 self.assertGreater(calls, 2)
                 self.assertLess(calls, 400)
@@ -65,7 +65,7 @@ class ShortagesTest(ProgramTest):
             self.assertTrue(provider.exchange(FIND_BOB).startswith(b"HTTP/1.1 200"))
 
     def least_descriptors_of(self, provider):
-        """The fewest that it has open within some time. It opens some for a moment to see whether there are any."""
+        """The fewest that it has open within some time: now and then it opens some to see whether there are any."""
         end, counts = time.monotonic() + 3 * GRANTED, []
         while time.monotonic() < end:
             counts.append(descriptors_of(provider))
@@ -73,7 +73,7 @@ class ShortagesTest(ProgramTest):
         return min(counts)
 
     def writes_before_a_creation(self):
-        """How many writes a run makes that opens a new store and isn't asked for anything."""
+        """How many writes a run makes if it opens a new store and gets no request."""
         shim = Shim(self.shim, self.folder, {})
         with Provider(1_000_000, "--store", self.folder / "other", **shim.options):
             return shim.count_of("WRITE")

@@ -81,8 +81,8 @@ class SimulateAmongTest(ProgramTest):
         errors += ["schedule line 8: others write group crew, a record of the source"]
         self.assert_prints(self.simulate(*lines), *reports, *views, *others, status=1, errors=errors)
 
-    def test_a_late_line_about_a_record_of_the_source_is_told(self):
-        """One behind more lines, and more events, than any part of a run counts."""
+    def test_a_late_line_about_a_record_of_the_source_is_reported(self):
+        """The line comes after 601 others, 301 of which are events."""
         run = self.simulate(*["# nothing"] * 300, *["deliver 1"] * 300, "user bob,1,,,,,active", "other user bob,1,,,,,left")
         reports = [*(f"{number} none" for number in range(1, 301)), "301 new", "302 other 201"]
         bob = "user bob wanted=1 confirmed=0 held=1 version=1 active=false"

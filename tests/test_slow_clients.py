@@ -100,7 +100,7 @@ class SlowClientTest(PromptTest):
             self.assertEqual(read_all(stream), BOB_CREATED)
 
     def test_a_body_that_comes_after_its_head(self):
-        """Behind empty lines, which may come before a request, and whatever the case of a field's name."""
+        """Empty lines may come before a request, and a field's name may have any case."""
         head, body = CREATE_BOB.split(b"\r\n\r\n", 1)
         name = b"Content-Length"
         self.assertIn(name, head)

@@ -1,4 +1,4 @@
-"""`push --snapshot`: which rows are offered for files that say all that is true today, by the journal."""
+"""`push --snapshot`: which rows are offered for complete files of today, by the journal."""
 import pathlib
 import tempfile
 
@@ -91,7 +91,7 @@ class UserTest(SnapshotTest):
         self.carries(4, "ann 1", "bob 1")
         self.users_say("login,status", "ann,active", "bob,left")
         self.carries(2, "ann 1", "bob 2")
-        # who is in no file any more stays off
+        # a user without a record stays off
         self.users_say("login,status", "ann,active")
         self.carries(0, "ann 1", "bob 2")
         self.users_say("login,status", "ann,active", "bob,active")
@@ -103,7 +103,7 @@ class UserTest(SnapshotTest):
         self.users_say("login", "ann", "cid")
         run = self.site.push(NOWHERE, *SNAPSHOT, "9")
         self.assert_prints(run, *confirmed("ann 1"), status=3, errors=["connection fault"])
-        # the rows were taken: they have their revisions
+        # the journal has the rows, with their revisions
         self.carries(4, "ann 1", "bob 2", "cid 1")
 
 

@@ -1,5 +1,5 @@
-"""`push --snapshot` with allocations, writes and reads that fail in turn: its rows are taken all or not at all, and nobody is
-switched off if it isn't certain who is absent."""
+"""`push --snapshot` with allocations, writes and reads that fail in turn: it takes all rows of a file or none, and
+switches nobody off if it isn't certain who is absent."""
 import pathlib
 import tempfile
 
@@ -9,7 +9,7 @@ from snapshots import NOBODY, SNAPSHOT
 from support import NOWHERE, ProgramTest, Site, resource_id, scimlink, text, without_causes
 from test_faults import STEP, TOLD
 
-# What a run may say on standard error that ends as it ends without a fault
+# What a run says on standard error if no fault is made
 SURE = {"users: ignored columns: Site", "connection fault"}
 UNSURE = SURE | {"users record 2: S4", f"users record 2 can't be read: {NOBODY}"}
 BEFORE = ["user ann wanted=1 confirmed=1", "user bob wanted=1 confirmed=1", "group crew wanted=1 confirmed=1"]
@@ -75,7 +75,7 @@ class FaultTest(ProgramTest):
                 self.assertGreater(count, 0)
 
     def places(self, kind, story):
-        """Of the allocations of an opening, one in so many is refused."""
+        """Only one in STEP allocations of an opening fails."""
         if kind != "ALLOCATION":
             return {}
         with tempfile.TemporaryDirectory(dir=self.folder) as name:

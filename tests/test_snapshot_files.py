@@ -53,7 +53,7 @@ class ColumnTest(SnapshotTest):
         self.plans("user ann new 1 active", "group crew new 1 members=0")
 
     def test_a_column_that_is_gone(self):
-        """Each field of it is empty, as are those of departments in a file without them."""
+        """Its fields are empty, like the departments of a file without that column."""
         self.keep(("ann", {"mail": "ann@x"}), ("bob", {"department": "Sales"}), ("cid", {}))
         self.users_say("login", "ann", "bob", "cid")
         self.plans("user ann 1 to 2 active", "user bob 1 to 2 active")
@@ -133,7 +133,7 @@ class ByteTest(SnapshotTest):
         self.plans("user ann 1 to 2 active", "user bob 1 to 2 left", errors=errors)
 
     def test_a_quote_that_has_swallowed_records(self):
-        """Who was swallowed is absent, and the threshold is met."""
+        """The swallowed users are absent, which are more than the threshold allows."""
         self.keep(*((name, {}) for name in ("ann", "bob", "cid", "dee")))
         self.users_say("login,family,status", 'ann,"Lee,active', "bob,Ray,active", "cid,Poe,active", 'dee,"Fox,active')
         # after the second quote the field goes on to the next comma

@@ -1,5 +1,5 @@
-"""`push --snapshot` beside other journals and other accounts: what it can't see, as REFERENCE.md says, and what then helps,
-as GUIDE.md says."""
+"""`push --snapshot` with another journal, and beside other accounts: what it can't see (REFERENCE.md), and what then
+helps (GUIDE.md)."""
 import json
 
 from example_tools import run_tool
@@ -26,7 +26,7 @@ class JournalTest(SnapshotTest):
         self.assert_prints(self.site.show_store(), f"user ann {ann}", f"user bob {bob}", f"group crew {crew}")
 
     def begins_an_epoch(self):
-        """Files with revisions and a higher epoch, which have the leaver; and snapshots after that."""
+        """Pushes files with revisions of a higher epoch, which have the leaver, and snapshots after them."""
         snapshots = self.site.users.read_text(), self.site.groups.read_text()
         self.site.write_users("ann,1:1,,,,ann@x,active", "bob,1:1,,,,,left")
         self.site.write_groups("crew,1:1,ann")
@@ -44,7 +44,7 @@ class JournalTest(SnapshotTest):
         for file in self.folder.glob("journal*"):
             file.unlink()
         self.site.journal.write_bytes(self.monday)
-        # these revisions are given a second time, so the provider shows them already
+        # the connector gives these revisions a second time, so the provider shows them already
         held = "held=2 version=2 active=true", "held=2 version=2 members=1"
         self.carries(2, "ann 1", "bob 2", "group crew 2")
         self.holds(*held)
@@ -99,7 +99,7 @@ class AdoptedTest(SnapshotTest):
         self.adopts(1, "")
 
     def test_a_snapshot_after_the_adoption(self):
-        """It meets its first revision at the provider."""
+        """The provider already shows the first revision of the snapshot."""
         self.adopts(0, "bob adopted at revision 1")
         self.snapshot("user bob confirmed 1", "bob,1002")
         self.assertEqual(self.account(), ("old", True, 1))

@@ -92,7 +92,7 @@ class StoreTest(ProgramTest):
 class RowTest(StoreTest):
     def test_a_store_that_is_not_there_is_made(self):
         for _ in range(2):
-            # it is opened before the request is read, which doesn't come
+            # the store is opened before the request is read, and no request comes
             self.assert_fault(scimlink("answer", "--store", self.site.store), "connection fault")
             self.assert_shows()
         self.assertEqual(sql(self.site.store, ROWS), [])

@@ -208,7 +208,7 @@ class AnswerStreamTest(StreamTest):
 
 class ServeStreamTest(StreamTest):
     def test_no_part_of_a_request_is_one(self):
-        # no part at all doesn't count as a request
+        # a connection without a byte doesn't count as a request
         with self.serving(370 + 1, connection_faults=371) as provider:
             for length in range(371):
                 with provider.connect() as stream:
@@ -240,7 +240,7 @@ class ServeStreamTest(StreamTest):
             options = self.scripted(1, reads=Script(1_000, [(place, requests, error)])).options
             with self.subTest(place=place, error=error), \
                     Provider(requests, "--store", site.store, **options) as provider:
-                # what wasn't read is refused by the system
+                # the system resets the connection if something wasn't read
                 with contextlib.suppress(ConnectionResetError):
                     self.assertEqual(provider.exchange(CREATE_BOB), b"")
                 self.assertEqual(provider.exchange(CREATE_BOB), BOB_CREATED)

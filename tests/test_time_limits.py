@@ -1,7 +1,6 @@
 """What `serve` and `push` do after the 30 seconds that they give a connection or an exchange.
 
-The waits are of one test, all at once, so that the suite waits once. That it is no longer time is told by a clock that
-is set ahead.
+One test has all the waits at once, so that the suite waits once. `ClockTest` sets a clock ahead, and doesn't wait.
 """
 import concurrent.futures
 import contextlib
@@ -126,7 +125,7 @@ class TimeLimitTest(ProgramTest):
 
 
 class ClockTest(ProgramTest):
-    """The clock of a run is set ahead until almost the end of the time, and then until just behind it."""
+    """The clock of a run is set ahead: first to shortly before the time is over, then to just after."""
 
     def setUp(self):
         super().setUp()

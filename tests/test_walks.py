@@ -1,4 +1,4 @@
-"""The walks of docs/DEVELOPING.md: each file is there, and defines what its row names. And docs/MODEL.md leads through
+"""The walks of docs/DEVELOPING.md: each file is there, and defines what its row names. docs/MODEL.md has a link to
 every file of definitions."""
 import pathlib
 import re
