@@ -9,6 +9,10 @@
 # push.
 set -eu
 PATH=$PATH:/usr/local/bin
+if [ $# -lt 2 ]; then
+    echo "usage: nightly-snapshot.sh EXPORT OPTION.." >&2
+    exit 2
+fi
 file=$1
 shift
 # it checks and pushes this copy, so that nobody changes the file in between
@@ -29,7 +33,7 @@ if [ -e "$file.pushed" ]; then
     size=$(($(wc -c < "$copy")))
     last=$(($(wc -c < "$file.pushed")))
     if [ $((10 * size)) -lt $((9 * last)) ]; then
-        refuse "has $size bytes, and the last one had $last"
+        refuse "has $size bytes, and the last one had $last (if that is right, remove $file.pushed)"
     fi
 fi
 status=0

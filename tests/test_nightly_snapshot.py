@@ -55,6 +55,11 @@ class NightlyTest(ProgramTest):
         self.assertEqual(self.push(), (1, "", f"{self.export} {why}: nothing was pushed\n"))
         self.assertEqual(self.held(), before)
 
+    def test_a_call_without_options(self):
+        for words in (), (self.export,):
+            run = subprocess.run(["sh", SCRIPT, *words], capture_output=True, text=True, timeout=PATIENCE, check=False)
+            self.assertEqual((run.returncode, run.stderr), (2, "usage: nightly-snapshot.sh EXPORT OPTION..\n"))
+
     def held(self):
         return [path.read_bytes() if path.exists() else None for path in (self.site.journal, self.pushed)]
 
@@ -85,20 +90,20 @@ class NightlyTest(ProgramTest):
         self.write(1000, "ann", "bob")
         self.is_pushed(2)
         self.write(899, "ann", "bob")
-        self.is_refused("has 899 bytes, and the last one had 1000")
+        self.is_refused(f"has 899 bytes, and the last one had 1000 (if that is right, remove {self.pushed})")
         self.write(900, "ann", "bob")
         self.is_pushed(2)
         # the last export has 900 bytes
         self.write(810, "ann", "bob")
         self.is_pushed(2)
         self.export.write_bytes(b"")
-        self.is_refused("has 0 bytes, and the last one had 810")
+        self.is_refused(f"has 0 bytes, and the last one had 810 (if that is right, remove {self.pushed})")
 
     def test_an_export_that_may_be_so_small(self):
         self.write(1000, "ann", "bob")
         self.is_pushed(2)
         self.write(100, "ann", "bob")
-        self.is_refused("has 100 bytes, and the last one had 1000")
+        self.is_refused(f"has 100 bytes, and the last one had 1000 (if that is right, remove {self.pushed})")
         self.pushed.unlink()
         self.is_pushed(2)
 
