@@ -298,13 +298,6 @@ class UnsureTest(SnapshotTest):
             said, plan=["user ann 1 to 2 active"],
         )
 
-    def test_a_field_that_swallows_records(self):
-        # between a quote that isn't closed and the next one
-        self.unsure_of_users(
-            b'login,mail\nann,"ann@x\nbob,\ncid,"\n', "users record 1: a quoted field goes over 3 lines; is a quote missing?",
-            f"users: a quote may be missing: {NOBODY}", plan=["user ann 1 to 2 active"],
-        )
-
     def test_no_record(self):
         for content in (b"login,mail\n", b"login", b"\n\nlogin,mail\r\n\r\n"):
             self.unsure_of_users(content, f"users: there is no record: {NOBODY}")
