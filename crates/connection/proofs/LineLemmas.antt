@@ -31,7 +31,7 @@ one_more l xs i there =
     let next : i + 1 ≡ suc i = omega arith in
     ap (λ (n : ℕ). lines_after l (take n xs)) next ∙ more l xs i there
 
-ended : (xs : List ℕ) → lines_after Ended xs ≡ Ended
+pub ended : (xs : List ℕ) → lines_after Ended xs ≡ Ended
 ended [] = refl
 ended (x ∷ xs) = ended xs
 

@@ -5,7 +5,7 @@ ghost use Rattle.connection.specs.Endings.{BeginsWith, IsStill, MovesOn, is_sent
 ghost use Rattle.connection.specs.Streams.{with_unsent};
 
 use crate::late::LateWriter;
-use crate::limits::{drain_time, granted};
+use crate::limits::{drain_pause, drain_time, granted};
 use crate::watch::Watch;
 use std::io;
 use std::io::{ErrorKind, Read, Write};
@@ -25,6 +25,9 @@ pub(crate) struct Ending<'a, S: Drop, C> {
     /// The number of the connection, and that of its descriptor.
     number: usize,
     descriptor: RawFd,
+    /// Whether the system knows its stream, and whether it tells when to look again.
+    is_known: bool,
+    is_watched: bool,
     stream: PromptStream<'a, S, C>,
     unsent: Vec<u8>,
     /// How many of the unsent bytes were sent since.
@@ -58,6 +61,7 @@ impl<'a, S: Read + Write + OpenStream + Drop, C: Clock> Ending<'a, S, C> {
         let LateWriter {
             number,
             descriptor,
+            is_watched,
             end,
             writer,
             unsent,
@@ -65,6 +69,8 @@ impl<'a, S: Read + Write + OpenStream + Drop, C: Clock> Ending<'a, S, C> {
         let mut ending = Ending {
             number,
             descriptor,
+            is_known: is_watched,
+            is_watched: is_watched && unsent.is_empty(),
             stream: writer,
             unsent,
             sent: 0,
@@ -140,13 +146,21 @@ impl<'a, S: Read + Write + OpenStream + Drop, C: Clock> Ending<'a, S, C> {
         ensures sent { self.new.sent ≡ self.old.sent }
         ensures unsent { self.new.unsent ≡ self.old.unsent }
     {
-        let is_asked = if self.is_sent() {
-            watch.ask_for_bytes(self.descriptor, self.number)
-        } else {
-            watch.ask_for_room(self.descriptor, self.number)
-        };
-        if is_asked.is_ok() {
+        if !self.is_watched {
+            self.is_watched = self.ask(watch).is_ok();
+        }
+        if self.is_watched {
+            self.is_known = true;
             self.next = self.end;
+        }
+    }
+
+    /// Asks the system to tell when something comes, or the peer takes more.
+    fn ask(&self, watch: &Watch) -> io::Result<()> {
+        if self.is_sent() {
+            watch.ask_for_bytes(self.descriptor, self.number, self.is_known)
+        } else {
+            watch.ask_for_room(self.descriptor, self.number, self.is_known)
         }
     }
 
@@ -159,6 +173,7 @@ impl<'a, S: Read + Write + OpenStream + Drop, C: Clock> Ending<'a, S, C> {
         match self.send() {
             Ok(()) => {
                 if self.is_sent() {
+                    self.is_watched = false;
                     self.shut_down(now);
                 }
                 Step::Moves
@@ -199,6 +214,9 @@ impl<'a, S: Read + Write + OpenStream + Drop, C: Clock> Ending<'a, S, C> {
         if let Some(end) = now.checked_add(drain_time()) {
             self.end = self.end.min(end);
             self.stream.end_by(end);
+        }
+        if let Some(next) = now.checked_add(drain_pause()) {
+            self.next = next;
         }
     }
 

@@ -1,5 +1,5 @@
 //! Connections whose requests aren't whole yet.
-ghost use Rattle.std.specs.Prelude.{◌≡◌, [], IfOk};
+ghost use Rattle.std.specs.Prelude.{◌≡◌, ◌≤◌, [], IfOk};
 ghost use Rattle.std.specs.Io.KnownBytes.{Keeps, prepend_known};
 ghost use Rattle.connection.specs.Holding.{HasCome, IsLookedAtBy, IsSame, Looks, is_time, size_of};
 
@@ -20,11 +20,13 @@ use timed_streams::{Deadline, PromptStream, SharedStream};
 /// The most bytes that a request has.
 const MOST_BYTES: usize = HEAD_LIMIT + BODY_LIMIT as usize;
 
-/// The most bytes that one read takes.
-const READ_LIMIT: usize = 2_048;
+/// The most bytes that the first read of a connection takes, and a later one.
+const SHORT_READ: usize = 2_048;
+
+const LONG_READ: usize = 16_384;
 
 /// The most reads of one look, which are enough for a whole request.
-const MOST_READS: u32 = 24;
+pub(crate) const MOST_READS: u32 = 4;
 
 /// A connection, and what its peer has sent so far.
 #[derive(Drop)]
@@ -39,6 +41,8 @@ pub(crate) struct Held<S: Drop> {
     accepted: Instant,
     /// When to look at it again: once something may have come on it, or its time is over.
     next: Instant,
+    /// Whether the system tells when something comes on it.
+    is_watched: bool,
     /// What came on its stream. Nothing outside of this file takes it away, or adds to it.
     received: Received,
     /// Whether no request comes any more: its time is over, or its stream failed, or ended before anything came.
@@ -80,6 +84,7 @@ impl<S: Read + AsRawFd + Drop> Held<S> {
             deadline,
             accepted: now,
             next: now,
+            is_watched: false,
             received: Received::new(alloc),
             is_gone: false,
         }
@@ -158,15 +163,21 @@ impl<S: Read + AsRawFd + Drop> Held<S> {
     }
 
     /// Whether the connection can be served: its request is whole or refused, no more comes, or its time is
-    /// over. It looks now, and doesn't wait.
-    pub(crate) fn is_ready(&mut self, watch: &Watch, alloc: Global, now: Instant) -> bool
+    /// over. It looks now, by so many reads at most, and doesn't wait.
+    pub(crate) fn is_ready(
+        &mut self,
+        watch: &Watch,
+        alloc: Global,
+        most_reads: u32,
+        now: Instant,
+    ) -> bool
         ensures { Looks S.remaining self.old self.new result }
     {
         if self.deadline.left_at(now).is_none() {
             self.is_gone = true;
             return true;
         }
-        if let Arrival::Last = self.receive(watch, alloc) {
+        if let Arrival::Last = self.receive(watch, alloc, most_reads, now) {
             return true;
         }
         self.received.shrink();
@@ -174,7 +185,7 @@ impl<S: Read + AsRawFd + Drop> Held<S> {
     }
 
     /// Takes what has come, up to a whole request.
-    fn receive(&mut self, watch: &Watch, alloc: Global) -> Arrival
+    fn receive(&mut self, watch: &Watch, alloc: Global, most_reads: u32, now: Instant) -> Arrival
         ensures bytes { Keeps (prepend_known self.old.received.bytes.items (S.remaining self.old.stream))
             (prepend_known self.new.received.bytes.items (S.remaining self.new.stream)) }
         ensures same { IsSame self.old self.new }
@@ -182,14 +193,26 @@ impl<S: Read + AsRawFd + Drop> Held<S> {
         ensures come { HasCome self.old.received self.new.received result }
     {
         let mut arrival = Arrival::Nothing;
-        for _ in 0..MOST_READS {
+        for _ in 0..most_reads {
             match self.read_once(watch, alloc) {
                 Arrival::Bytes => arrival = Arrival::Bytes,
                 Arrival::Nothing => return arrival,
                 Arrival::Last => return Arrival::Last,
             }
+            if !self.is_due(now) {
+                return arrival;
+            }
         }
         arrival
+    }
+
+    /// How many bytes the next read takes at most.
+    fn room(&self) -> usize
+        ensures { result ≤ LONG_READ }
+    {
+        let read = self.received.bytes.len();
+        let most = if read == 0 { SHORT_READ } else { LONG_READ };
+        MOST_BYTES.saturating_sub(read).min(most)
     }
 
     /// Takes what one read gives.
@@ -200,10 +223,8 @@ impl<S: Read + AsRawFd + Drop> Held<S> {
         ensures next { IsLookedAtBy self.old self.new }
         ensures come { HasCome self.old.received self.new.received result }
     {
-        let mut buffer = [0; READ_LIMIT];
-        let room = MOST_BYTES
-            .saturating_sub(self.received.bytes.len())
-            .min(READ_LIMIT);
+        let mut buffer = [0; LONG_READ];
+        let room = self.room();
         if self.received.reserve(room).is_err() {
             return Arrival::Last;
         }
@@ -216,10 +237,12 @@ impl<S: Read + AsRawFd + Drop> Held<S> {
                 let kept = self.received.add(&buffer[..count]);
                 prove!(kept.is_ok());
                 if self.received.is_ready(alloc) {
-                    Arrival::Last
-                } else {
-                    Arrival::Bytes
+                    return Arrival::Last;
                 }
+                if count < room && !self.is_watched {
+                    self.rest(watch);
+                }
+                Arrival::Bytes
             }
             Err(error) => match error.kind() {
                 ErrorKind::WouldBlock => {
@@ -242,8 +265,11 @@ impl<S: Read + AsRawFd + Drop> Held<S> {
         ensures stream { self.new.stream ≡ self.old.stream }
         ensures received { self.new.received ≡ self.old.received }
     {
-        let is_asked = watch.ask_for_bytes(self.stream.as_raw_fd(), self.number);
-        if is_asked.is_ok() {
+        if !self.is_watched {
+            let is_asked = watch.ask_for_bytes(self.stream.as_raw_fd(), self.number, false);
+            self.is_watched = is_asked.is_ok();
+        }
+        if self.is_watched {
             self.next = self.deadline.end;
         }
     }
@@ -275,6 +301,7 @@ impl<S: Read + Write + OpenStream + AsRawFd + Drop> Held<S> {
             deadline,
             accepted: _,
             next: _,
+            is_watched,
             received,
             is_gone: _,
         } = self;
@@ -284,7 +311,7 @@ impl<S: Read + Write + OpenStream + AsRawFd + Drop> Held<S> {
         let writer = PromptStream::new(stream, clock, deadline);
         Ok((
             PromptStream::new(reader, clock, deadline),
-            LateWriter::new(alloc, number, descriptor, deadline.end, writer),
+            LateWriter::new(alloc, number, descriptor, is_watched, deadline.end, writer),
         ))
     }
 }

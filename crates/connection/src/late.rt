@@ -12,9 +12,10 @@ use std::time::Instant;
 /// A writer that keeps what the writer below doesn't take at once.
 #[derive(Drop)]
 pub struct LateWriter<W: Drop> {
-    /// The number of the connection, that of its descriptor, and when its time is over.
+    /// The number of the connection, that of its descriptor, whether the system watches it, and when its time is over.
     pub(crate) number: usize,
     pub(crate) descriptor: RawFd,
+    pub(crate) is_watched: bool,
     pub(crate) end: Instant,
     pub(crate) writer: W,
     /// What the writer below doesn't have yet.
@@ -26,6 +27,7 @@ impl<W: Write + Drop> LateWriter<W> {
         alloc: Global,
         number: usize,
         descriptor: RawFd,
+        is_watched: bool,
         end: Instant,
         writer: W,
     ) -> Self
@@ -37,6 +39,7 @@ impl<W: Write + Drop> LateWriter<W> {
         LateWriter {
             number,
             descriptor,
+            is_watched,
             end,
             writer,
             unsent: Vec::new(alloc),

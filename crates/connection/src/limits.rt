@@ -20,8 +20,11 @@ pub(crate) const RESERVE: usize = 8;
 /// The most sockets of which the system tells at once.
 pub(crate) const EVENTS_AT_ONCE: usize = 256;
 
+/// The most turns in a row in which the system isn't asked what came, if there is something to do.
+pub(crate) const MOST_SPARED: u32 = 3;
+
 /// The most connections that one call looks at.
-pub(crate) const MOST_LOOKS: usize = 16;
+pub(crate) const MOST_LOOKS: usize = 4;
 
 /// The most connections that are accepted in a row, if their requests aren't whole.
 pub(crate) const MOST_IN_A_ROW: u32 = 16;
@@ -53,6 +56,11 @@ pub(crate) fn drain_time() -> Duration
     ensures { as_nanos result ≡ drain_time }
 {
     Duration::from_secs(2)
+}
+
+/// How long it is waited before what a peer still sends is read, since most peers close at once.
+pub(crate) fn drain_pause() -> Duration {
+    Duration::from_millis(1)
 }
 
 /// The shortest time between two reports of faults.

@@ -23,6 +23,9 @@ impl HeadLines {
     fn after(self, byte: u8) -> HeadLines
         ensures { result ≡ spec.line_after self byte }
     {
+        if byte != b'\n' && byte != b'\r' {
+            return self.within();
+        }
         match self {
             HeadLines::Blank => if byte == b'\n' || byte == b'\r' {
                 HeadLines::Blank
@@ -48,6 +51,17 @@ impl HeadLines {
         }
     }
 
+    /// After a byte that ends no line.
+    fn within(self) -> HeadLines
+        ensures { result ≡ spec.line_after self 0 }
+    {
+        if self.have_ended() {
+            HeadLines::Ended
+        } else {
+            HeadLines::Inside
+        }
+    }
+
     /// Whether a head that begins like this may be whole.
     pub(crate) fn have_ended(self) -> bool
         ensures { IsTrue result ↔ (self ≡ Ended) }
@@ -60,6 +74,9 @@ impl HeadLines {
 pub(crate) fn lines_after(lines: HeadLines, bytes: &[u8]) -> HeadLines
     ensures { result ≡ spec.lines_after lines bytes.now }
 {
+    if lines.have_ended() {
+        return lines;
+    }
     let mut reached = lines;
     for byte in bytes {
         reached = reached.after(*byte);

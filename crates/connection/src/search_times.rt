@@ -30,11 +30,11 @@ impl SearchTimes {
         }
     }
 
-    /// From this moment on others come before the next search, if it is known.
-    pub(crate) fn put_off(&mut self, now: Option<Instant>)
-        ensures { self.new ≡ record self.old { ended = now } }
+    /// From this moment on others come before the next search.
+    pub(crate) fn put_off(&mut self, now: Instant)
+        ensures { self.new ≡ record self.old { ended = Some now } }
     {
-        self.ended = now;
+        self.ended = Some(now);
     }
 
     /// A search begins.

@@ -1,5 +1,5 @@
 //! The connections of a listening socket.
-ghost use Rattle.std.specs.Prelude.{◌≡◌, ◌-◌, [], IfOk, IfSome, IsNone, refl, true, vec_len};
+ghost use Rattle.std.specs.Prelude.{◌≡◌, ◌-◌, [], IfOk, IfSome, IsNone, false, refl, true, vec_len};
 ghost use Rattle.std.specs.Bool.{OnTrue};
 ghost use Rattle.std.specs.VecDeque.{deque_len};
 ghost use Rattle.connection.specs.Descriptors.{HasReserve, open_count};
@@ -131,9 +131,9 @@ where
         })
     }
 
-    /// Asks the system what came on which sockets. If nothing did, it waits until something comes, or this time is
-    /// over, if there is one.
-    fn gather(&mut self, timeout: Option<Duration>) -> io::Result<()> {
+    /// Asks the system what came on which sockets, and returns when. If nothing did, it waits until something comes, or
+    /// this time is over, if there is one.
+    fn gather(&mut self, timeout: Option<Duration>) -> io::Result<Instant> {
         self.watch.wait(timeout)?;
         let now = Instant::now(self.clock)?;
         for event in self.watch.events() {
@@ -146,27 +146,38 @@ where
                 }
             }
         }
-        Ok(())
+        Ok(now)
     }
 
-    /// How long there is nothing to do if nothing comes. There is no such time if nobody has a deadline.
-    fn pause(&self) -> io::Result<Option<Duration>> {
+    /// The same, but if there is something to do, the system isn't asked in each turn. It is before a search, and if the
+    /// thread that serves is the only client.
+    fn begin_turn(&mut self, timeout: Option<Duration>) -> io::Result<Instant> {
+        let may_go_on = timeout == Some(Duration::ZERO) && !self.is_own && self.searches.len() == 0;
+        if may_go_on && self.watch.is_spared() {
+            return Instant::now(self.clock);
+        }
+        self.gather(timeout)
+    }
+
+    /// How long there is nothing to do if nothing comes. There is no such time if nobody has a deadline. It fails if
+    /// nothing can ever come.
+    fn next_pause(&self) -> io::Result<Option<Duration>>
+        ensures { IfOk result (λ pause. IsNone pause → self.now.is_own ≡ false) }
+    {
         let now = Instant::now(self.clock)?;
+        if self.may_accept(now) || !self.waiting.is_round_over() {
+            return Ok(Some(Duration::ZERO));
+        }
         let room = self.waiting.room_time().unwrap_or(now);
         let times = [
             self.backlog.next_time(room),
             self.waiting.next_time(),
             self.endings.next_time(),
         ];
-        let next = times.into_iter().flatten().min();
-        Ok(next.map(|time| time.duration_since(now)))
-    }
-
-    /// The same. It fails if nothing can ever come.
-    fn next_pause(&self) -> io::Result<Option<Duration>> {
-        match self.pause()? {
+        match times.into_iter().flatten().min() {
+            Some(next) => Ok(Some(next.duration_since(now))),
             None if self.is_own => Err(io::Error::from(ErrorKind::NotConnected)),
-            pause => Ok(pause),
+            None => Ok(None),
         }
     }
 
@@ -174,20 +185,19 @@ where
     fn wait(&mut self) -> io::Result<Held<L::Stream>> {
         let mut pause = Some(Duration::ZERO);
         for _ in 0..u64::MAX {
-            self.gather(pause)?;
-            let found = self.turn();
-            self.report()?;
-            pause = Some(Duration::ZERO);
-            match found {
-                Ok(Some(held)) => {
-                    if let Some(held) = self.unless_search(held) {
+            let now = self.begin_turn(pause)?;
+            let found = self.turn(now);
+            self.report(now);
+            pause = match found {
+                Some(held) => {
+                    if let Some(held) = self.unless_search(held, now) {
                         return Ok(held);
                     }
+                    Some(Duration::ZERO)
                 }
-                Ok(None) => pause = self.next_pause()?,
-                Err(_) => self.fail(),
-            }
-            if let Some(held) = self.next_search(pause)? {
+                None => self.next_pause()?,
+            };
+            if let Some(held) = self.next_search(pause, now) {
                 return Ok(held);
             }
         }
@@ -196,12 +206,12 @@ where
 
     /// A connection that can be served, unless no request comes any more, or all rows are read for its request. Then it
     /// waits behind all others.
-    fn unless_search(&mut self, held: Held<L::Stream>) -> Option<Held<L::Stream>> {
+    fn unless_search(&mut self, held: Held<L::Stream>, now: Instant) -> Option<Held<L::Stream>> {
         if !held.is_gone() && !held.is_search(self.alloc) {
             return Some(held);
         }
         if self.searches.len() == 0 {
-            self.search_times.put_off(Instant::now(self.clock).ok());
+            self.search_times.put_off(now);
         }
         if held.is_gone() || !self.searches.add(held) {
             self.fail();
@@ -211,21 +221,20 @@ where
 
     /// The next connection for whose request all rows are read, if there is one, and nobody else is to be served, or
     /// others were served for as long as the last of these took.
-    fn next_search(&mut self, pause: Option<Duration>) -> io::Result<Option<Held<L::Stream>>> {
-        let now = Instant::now(self.clock)?;
+    fn next_search(&mut self, pause: Option<Duration>, now: Instant) -> Option<Held<L::Stream>> {
         if pause == Some(Duration::ZERO) && !self.search_times.had_their_share(now) {
-            return Ok(None);
+            return None;
         }
         for _ in 0..self.searches.len() {
             match self.searches.take() {
                 Some(held) if !held.is_over(now) => {
                     self.search_times.begin(now);
-                    return Ok(Some(held));
+                    return Some(held);
                 }
                 _ => self.fail(),
             }
         }
-        Ok(None)
+        None
     }
 
     /// Counts the fault of a connection that isn't given out.
@@ -243,65 +252,68 @@ where
     }
 
     /// Reports faults on standard error, once a second at most.
-    fn report(&mut self) -> io::Result<()> {
-        let now = Instant::now(self.clock)?;
+    fn report(&mut self, now: Instant) {
         let faults = self.faults.take_due(now);
         if !self.is_own {
             tell(self.clock, faults);
         }
-        Ok(())
     }
 
     /// A turn of all: those that were served go on, new ones are accepted, and those that wait are looked at. It takes
-    /// out one that can be served: of the new ones first, or of the others first, by turns. It fails if another one had
-    /// to be dropped.
-    fn turn(&mut self) -> io::Result<Option<Held<L::Stream>>> {
-        let now = Instant::now(self.clock)?;
+    /// out one that can be served: of the new ones first, or of the others first, by turns.
+    fn turn(&mut self, now: Instant) -> Option<Held<L::Stream>> {
         self.endings.go_on(&self.watch, now);
-        if self.waiting.free_memory(self.searches.size()) {
-            return Err(io::Error::from(ErrorKind::TimedOut));
-        }
+        self.free_memory();
         self.is_new_first = !self.is_new_first;
         if self.is_new_first
-            && let Some(held) = self.accept_some(now)?
+            && let Some(held) = self.accept_some(1, now)
         {
-            return Ok(Some(held));
+            return Some(held);
         }
         if let Some(held) = self.waiting.take_ready(&self.watch, self.alloc, now) {
-            return Ok(Some(held));
+            return Some(held);
         }
         if self.is_new_first {
-            return Ok(None);
+            return None;
         }
-        self.accept_some(now)
+        self.accept_some(1, now)
     }
 
-    /// Accepts and reads some new connections, up to the first that can be served. The others are held.
-    fn accept_some(&mut self, now: Instant) -> io::Result<Option<Held<L::Stream>>> {
-        for _ in 0..MOST_IN_A_ROW {
-            let Some(mut held) = self.next_held(now)? else {
-                return Ok(None);
-            };
-            if !held.is_ready(&self.watch, self.alloc, now) {
-                self.hold(held, now)?;
-            } else if held.is_gone() {
-                self.fail();
-            } else {
-                return Ok(Some(held));
+    /// Gives up the largest requests until those that are left leave room for what comes in a turn.
+    fn free_memory(&mut self) {
+        let others = self.searches.size();
+        for _ in 0..self.waiting.len() {
+            if !self.waiting.free_memory(others) {
+                return;
             }
+            self.fail();
         }
-        Ok(None)
     }
 
-    /// Accepts some new connections, and holds them unread.
-    fn hold_some(&mut self, now: Instant) -> io::Result<()> {
+    /// Accepts some new connections, and reads each by so many reads, up to the first that can be served. The others are
+    /// held. It goes on if one fails, or another one has to make room.
+    fn accept_some(&mut self, most_reads: u32, now: Instant) -> Option<Held<L::Stream>> {
         for _ in 0..MOST_IN_A_ROW {
-            match self.next_held(now)? {
-                Some(held) => self.hold(held, now)?,
-                None => return Ok(()),
+            match self.next_held(now) {
+                Ok(Some(mut held)) => {
+                    let is_ready = held.is_ready(&self.watch, self.alloc, most_reads, now);
+                    if is_ready && !held.is_gone() {
+                        return Some(held);
+                    }
+                    if is_ready || !self.waiting.hold(held, now) {
+                        self.fail();
+                    }
+                }
+                Ok(None) => return None,
+                Err(_) => self.fail(),
             }
         }
-        Ok(())
+        None
+    }
+
+    /// Whether there may be a new connection, and there is a place for it.
+    fn may_accept(&self, now: Instant) -> bool {
+        self.backlog.is_due(now) && self.waiting.has_room(now)
     }
 
     /// The next new connection, unread, if there is one, and a place and a descriptor for it.
@@ -311,7 +323,7 @@ where
             (deque_len self.old.searches.waiting) (vec_len self.old.endings.endings))
             self.old.descriptors self.new.descriptors)) }
     {
-        if !(self.backlog.is_due(now) && self.waiting.has_room(now)) {
+        if !self.may_accept(now) {
             return Ok(None);
         }
         if !self.has_descriptors() {
@@ -363,20 +375,14 @@ where
         Ok(Held::new(self.alloc, number, peer, stream, deadline, now))
     }
 
-    /// Holds a connection until it can be served. It fails if another one had to be dropped.
-    fn hold(&mut self, held: Held<L::Stream>, now: Instant) -> io::Result<()> {
-        if self.waiting.hold(held, now) {
-            Ok(())
-        } else {
-            Err(io::Error::from(ErrorKind::TimedOut))
-        }
-    }
-
-    /// Goes on with others during a search: their answers are sent, and new ones are accepted.
-    fn attend(&mut self, now: Instant) -> io::Result<()> {
-        self.gather(Some(Duration::ZERO))?;
+    /// Goes on with others during a search: their answers are sent, and new ones are accepted, and held unread.
+    fn attend(&mut self) -> io::Result<()> {
+        let now = self.gather(Some(Duration::ZERO))?;
         self.endings.go_on(&self.watch, now);
-        self.hold_some(now)
+        if self.accept_some(0, now).is_some() {
+            self.fail();
+        }
+        Ok(())
     }
 
     /// Counts faults of connections, and with them the answers that were lost since the last call.
@@ -442,7 +448,7 @@ where
             Some(attended) if now.duration_since(attended) < longest_turn() => {}
             Some(_) => {
                 self.attended = Some(now);
-                if self.attend(now).is_err() {
+                if self.attend().is_err() {
                     self.fail();
                 }
             }

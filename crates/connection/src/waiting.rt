@@ -5,7 +5,7 @@ ghost use Rattle.std.specs.List.{slice_index_or};
 ghost use Rattle.std.specs.VecDeque.{deque_capacity, deque_len};
 ghost use Rattle.connection.specs.Holding.{GivesUp, GivesUpLargest, HasRoom, Holds, IsDue, IsLargest, Leaves, LooksAt, Notes, NotesAt, Refuses, Takes, TakesFirst, count_of, end_of, first_of, is_time, memory_of, round_end, size_of};
 
-use crate::held::Held;
+use crate::held::{Held, MOST_READS};
 use crate::limits::{MOST_GROWTH, MOST_HELD, MOST_LOOKS, MOST_MEMORY, granted};
 use crate::watch::Watch;
 use std::alloc::Global;
@@ -40,7 +40,7 @@ impl<S: Read + AsRawFd + Drop> Waiting<S> {
     }
 
     /// Whether all connections of the round were passed, or have left: the next call begins another.
-    fn is_round_over(&self) -> bool
+    pub(crate) fn is_round_over(&self) -> bool
         ensures { IsTrue result ↔ (round_end self.now ≤ self.now.next) }
     {
         self.next >= self.round_end()
@@ -241,7 +241,7 @@ impl<S: Read + AsRawFd + Drop> Waiting<S> {
         ensures next { self.new.next ≡ self.old.next }
         ensures end { self.new.end ≡ self.old.end }
     {
-        self.connections[place].is_ready(watch, alloc, now)
+        self.connections[place].is_ready(watch, alloc, MOST_READS, now)
     }
 
     /// Gives up the connection with the largest request, however old it is, if the requests of all of them and those of

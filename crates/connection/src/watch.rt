@@ -1,7 +1,7 @@
 //! Which sockets something came on, or take more.
 ghost use Rattle.std.specs.Prelude.{◌≤◌};
 
-use crate::limits::EVENTS_AT_ONCE;
+use crate::limits::{EVENTS_AT_ONCE, MOST_SPARED};
 use mio::event::Event;
 use mio::unix::SourceFd;
 use mio::{Events, Interest, Poll, Token};
@@ -15,12 +15,15 @@ use std::time::Duration;
 /// The token of the listening socket. That of a connection is its number.
 const LISTENER: Token = Token(usize::MAX);
 
-/// Sockets that the system watches. It is asked to tell of a socket once nothing comes on it, or it takes nothing more,
-/// and then tells once. Nothing is promised of what it tells, nor when.
+/// Sockets that the system watches. It is asked about a socket once, when nothing comes on it, or it takes nothing more.
+/// From then on it tells each time that something comes, or that more is taken. Nothing is promised of what it tells,
+/// nor when.
 #[derive(Drop)]
 pub(crate) struct Watch {
     poll: Poll,
     events: Events,
+    /// In how many turns in a row the system wasn't asked.
+    spared: u32,
 }
 
 /// What the system tells of.
@@ -36,7 +39,11 @@ impl Watch {
     pub(crate) fn new(net: &impl Net, alloc: Global) -> io::Result<Watch> {
         let poll = Poll::new(net)?;
         let events = Events::with_capacity(alloc, EVENTS_AT_ONCE).map_err(out_of_memory)?;
-        Ok(Watch { poll, events })
+        Ok(Watch {
+            poll,
+            events,
+            spared: MOST_SPARED,
+        })
     }
 
     /// Watches a listening socket.
@@ -47,24 +54,40 @@ impl Watch {
             .register(&mut SourceFd(&descriptor), LISTENER, Interest::READABLE)
     }
 
-    /// Asks to be told when something comes on the stream of the connection with this number.
-    pub(crate) fn ask_for_bytes(&self, stream: RawFd, number: usize) -> io::Result<()> {
-        self.ask(stream, number, Interest::READABLE)
+    /// Asks the system to tell when something comes on the stream of the connection with this number.
+    pub(crate) fn ask_for_bytes(
+        &self,
+        stream: RawFd,
+        number: usize,
+        is_known: bool,
+    ) -> io::Result<()> {
+        self.ask(stream, number, is_known, Interest::READABLE)
     }
 
-    /// Asks to be told when the stream of the connection with this number takes more.
-    pub(crate) fn ask_for_room(&self, stream: RawFd, number: usize) -> io::Result<()> {
-        self.ask(stream, number, Interest::WRITABLE)
+    /// Asks the system to tell when the stream of the connection with this number takes more.
+    pub(crate) fn ask_for_room(
+        &self,
+        stream: RawFd,
+        number: usize,
+        is_known: bool,
+    ) -> io::Result<()> {
+        self.ask(stream, number, is_known, Interest::WRITABLE)
     }
 
-    fn ask(&self, stream: RawFd, number: usize, interest: Interest) -> io::Result<()> {
+    /// Asks it about a stream, which it knows if it was asked about it before.
+    fn ask(
+        &self,
+        stream: RawFd,
+        number: usize,
+        is_known: bool,
+        interest: Interest,
+    ) -> io::Result<()> {
         let registry = self.poll.registry();
         let mut source = SourceFd(&stream);
-        match registry.reregister(&mut source, Token(number), interest) {
-            Err(error) if error.kind() == ErrorKind::NotFound => {
-                registry.register(&mut source, Token(number), interest)
-            }
-            outcome => outcome,
+        if is_known {
+            registry.reregister(&mut source, Token(number), interest)
+        } else {
+            registry.register(&mut source, Token(number), interest)
         }
     }
 
@@ -84,8 +107,18 @@ impl Watch {
         most
     }
 
+    /// Whether the system needn't be asked in this turn, since it was in one of the last ones.
+    pub(crate) fn is_spared(&mut self) -> bool {
+        let is_spared = self.spared < MOST_SPARED;
+        if is_spared {
+            self.spared += 1;
+        }
+        is_spared
+    }
+
     /// Waits until there is something to tell, or this time is over. Without a time it waits as long as it takes.
     pub(crate) fn wait(&mut self, timeout: Option<Duration>) -> io::Result<()> {
+        self.spared = 0;
         self.poll.poll(&mut self.events, timeout)
     }
 

@@ -5,5 +5,5 @@ use Rattle.connection.proofs.endings.Endings.go_on.Given as goal
 abbrev pub invariant-loop : goal.invariant-loop
 invariant-loop g l = record {
   fewer : vec_len l.self.endings ≤ vec_len l.initial.self.endings;
-  few : l.looks ≤ 16;
+  few : l.looks ≤ 4;
 }

@@ -56,11 +56,11 @@ returns-then-is_ready_at-clause-takes g c =
     let new = c.remove.new.self.items in
     let before = c.loop-place.invariant in
     let there : place < length old = omega (arith, c.loop-place-test.true, c.requires.end) in
-    let few : looks < 16 = omega (arith, before.few, c.if-looks-eq-MOST_LOOKS.false) in
+    let few : looks < 4 = omega (arith, before.few, c.if-looks-eq-MOST_LOOKS.false) in
     let found : LooksAt g.S.Read.remaining place mid seen true =
     subst (λ (ready : Bool). LooksAt g.S.Read.remaining place mid seen ready) c.if-is_ready_at.true c.is_ready_at.ensures.looks in
-    subst (λ (next : ℕ). TakesFirst g.S.Read.remaining now 16 first end next old new c.remove.result) (sym c.is_ready_at.ensures.next)
-    (took_out g.S.Read.remaining now 16 first place looks end old mid seen new c.remove.result c.loop-place.auto.place c.loop-place-test.true
+    subst (λ (next : ℕ). TakesFirst g.S.Read.remaining now 4 first end next old new c.remove.result) (sym c.is_ready_at.ensures.next)
+    (took_out g.S.Read.remaining now 4 first place looks end old mid seen new c.remove.result c.loop-place.auto.place c.loop-place-test.true
     there few before.so_far found (λ d. c.remove.ensures.succeeds d (omega (arith, there, before.so_far.length, found.length))) c.remove.ensures.items)
 
 pub returns-clause-takes : goal.returns-clause-takes
@@ -69,5 +69,5 @@ returns-clause-takes g c =
     let end = c.args.self.now.end in
     let place = c.loop-place.place in
     let last : place ≡ end = omega (arith, c.loop-place-test.false, c.loop-place.auto.place-end, c.requires.begun) in
-    passed_all g.S.Read.remaining c.args.now 16 first place c.loop-place.looks end c.args.self.now.connections.items
+    passed_all g.S.Read.remaining c.args.now 4 first place c.loop-place.looks end c.args.self.now.connections.items
     c.loop-place.self.connections.items c.loop-place.auto.place last c.loop-place.invariant.few c.loop-place.invariant.so_far

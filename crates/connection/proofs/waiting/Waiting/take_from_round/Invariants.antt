@@ -6,6 +6,6 @@ use Rattle.connection.proofs.waiting.Waiting.take_from_round.Given as goal
 abbrev pub invariant-loop-place : goal.invariant-loop-place
 invariant-loop-place g l = record {
   so_far : SoFar g.S.Read.remaining l.now l.first l.place l.looks l.initial.self.connections.items l.self.connections.items;
-  few : l.looks ≤ 16;
+  few : l.looks ≤ 4;
   end : l.self.end ≡ l.initial.self.end;
 }
