@@ -1,5 +1,5 @@
 -- Rows that are kept of records, and names that are collected.
-use Rattle.std.proofs.Common.{◌≡◌, ◌∙◌, ◌||◌, Bool, false, List, ◌∷◌, if◌then◌else◌, Option, Some, None, Result, Ok, Err, IfOk, map, map-id, is_some, unwrap_or, refl, sym, ap, inl, inr}
+use Rattle.std.proofs.Common.{◌≡◌, ◌∙◌, ◌||◌, Bool, false, List, ◌∷◌, if◌then◌else◌, Option, Some, None, Result, Ok, Err, IfOk, map-id, is_some, unwrap_or, refl, sym, ap, inl, inr}
 use Rattle.std.proofs.lemmas.Bool.{cases_Bool}
 use Rattle.std.proofs.lemmas.Iterator.{YieldsList, items_from_drains}
 use Rattle.std.specs.BTreeMap.{BTreeMap, IsEmpty, Updates, get, is_at}

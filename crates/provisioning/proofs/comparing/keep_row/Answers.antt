@@ -1,4 +1,3 @@
-use Rattle.std.proofs.Common.{rules}
 use Rattle.provisioning.proofs.CompareLemmas.{kept}
 use Rattle.provisioning.proofs.comparing.keep_row.Goals as goal
 
