@@ -7,6 +7,8 @@ SNAPSHOT = ["--snapshot", "--most-leavers"]
 # What a push says if it isn't certain who is absent
 NOBODY = "nobody who is absent was switched off"
 NO_GROUP = "no group that is absent was emptied"
+# What a plan adds for a record that is absent
+ABSENT = "(not in the file)"
 
 
 def confirmed(*records):

@@ -65,6 +65,82 @@ class LineTest(PlanTest):
         self.plans("user bob 57 to 1:1 left")
 
 
+class ChangeTest(PlanTest):
+    """What a line changes, beside the row that the journal has, if that is confirmed."""
+    BOB = {"number": "1002", "given": "Bob", "family": "Ray", "mail": "bob@x", "department": "Sales"}
+    HEADER = "login,revision,number,given,family,mail,status,department"
+
+    def bob(self, change, *rows, **known):
+        """The plan's line of bob, if the file has these rows, and the journal has this of him."""
+        make_journal(self.site.journal, [user_entry("bob", **self.BOB | {"id": resource_id(1), "confirmed": 1} | known)])
+        self.site.write_users(*rows, header=self.HEADER)
+        with self.subTest(rows=rows, known=known):
+            self.plans(f"user bob {change}")
+        self.site.journal.unlink()
+
+    def test_each_column(self):
+        for row, name in (
+            ("BOB,2,1002,Bob,Ray,bob@x,active,Sales", "login"),
+            ("bob,2,1003,Bob,Ray,bob@x,active,Sales", "number"),
+            ("bob,2,1002,Rob,Ray,bob@x,active,Sales", "given"),
+            ("bob,2,1002,Bob,Roy,bob@x,active,Sales", "family"),
+            ("bob,2,1002,Bob,Ray,BOB@x,active,Sales", "mail"),
+            ("bob,2,1002,Bob,Ray,bob@x,active,", "department"),
+            ("bob,2,1002,Bob,Ray,,active,Board", "mail, department"),
+            ("Bob,2,,,,,active,", "login, number, given, family, mail, department"),
+        ):
+            self.bob(f"1 to 2: {name}", row)
+
+    def test_a_column_that_is_gone(self):
+        self.site.write_users("bob,2,1002,Bob,Ray,bob@x,active")
+        make_journal(self.site.journal, [user_entry("bob", **self.BOB, confirmed=1, id=resource_id(1))])
+        self.plans("user bob 1 to 2: department")
+
+    def test_nothing_but_the_revision(self):
+        self.bob("1 to 2 active", "bob,2,1002,Bob,Ray,bob@x,active,Sales")
+        self.bob("1 to 2 left", "bob,2,1002,Bob,Ray,bob@x,left,Sales", active=0)
+
+    def test_a_leaver(self):
+        self.bob("1 to 2 left", "bob,2,1002,Bob,Ray,bob@x,left,Sales")
+        self.bob("1 to 2 left: mail, department", "bob,2,1002,Bob,Ray,,left,")
+        self.bob("1 to 2 left: mail", "bob,2,1002,Bob,Ray,bob@y,left,Sales", active=0)
+
+    def test_somebody_who_is_back(self):
+        self.bob("3 to 4 active again", "bob,4,1002,Bob,Ray,bob@x,active,Sales", active=0, revision=3, confirmed=3)
+        self.bob("1 to 2 active again: mail", "bob,2,1002,Bob,Ray,bob@y,active,Sales", active=0)
+
+    def test_beside_a_row_that_is_not_confirmed(self):
+        self.bob("1 to 3 active", "bob,3,1002,Bob,Ray,bob@y,active,Sales", revision=2)
+        self.bob("1 to 3 active", "bob,3,1002,Bob,Ray,bob@x,active,Sales", revision=2, active=0)
+        self.bob("new 2 active", "bob,2,1002,Bob,Ray,bob@y,active,Sales", confirmed=0, id=None)
+
+    def test_a_row_that_was_wanted_before(self):
+        self.bob("1 to 2 active", "bob,2,1002,Bob,Ray,bob@x,active,Sales", revision=2)
+
+    def test_several_rows_of_a_record(self):
+        """The last of them is compared with the confirmed one."""
+        self.bob("1 to 3 active", "bob,2,1002,Bob,Ray,other,active,Sales", "bob,3,1002,Bob,Ray,bob@x,active,Sales")
+        self.bob("1 to 3: mail", "bob,2,1002,Bob,Ray,bob@x,left,Sales", "bob,3,1002,Bob,Ray,other,active,Sales")
+
+    def test_groups(self):
+        users = [user_entry(name, confirmed=1, id=resource_id(number)) for number, name in enumerate(("ann", "bob"), 1)]
+        make_journal(self.site.journal, users, [
+            group_entry(name, members, confirmed=1, id=name) for name, members in (("crew", "ann"), ("duo", "ann bob"), ("trio", "bob"))
+        ])
+        self.site.write_users()
+        self.site.write_groups("crew,2,ann bob", "Duo,2,bob ann", "TRIO,3,")
+        self.plans("group crew 1 to 2 members=2", "group duo 1 to 2 members=2: name", "group trio 1 to 3 members=0: name")
+
+    def test_a_plan_then_a_push(self):
+        self.join()
+        self.site.write_users("bob,2,,,,bob@x,active", "ann,2,,,,,left", "cid,1,,,,,active")
+        self.plans("user ann 1 to 2 left", "user bob 1 to 2: mail", "user cid new 1 active")
+        self.pushes(6, "user ann confirmed 2", "user bob confirmed 2", "user cid confirmed 1")
+        self.plans()
+        self.site.write_users("ann,3,,,,ann@x,active")
+        self.plans("user ann 2 to 3 active again: mail")
+
+
 class RejectedTest(PlanTest):
     def test_rejected_records_are_reported_as_a_push_does(self):
         make_journal(self.site.journal, [user_entry("bob", revision=2, confirmed=2, id=resource_id(1))])

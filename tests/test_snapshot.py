@@ -3,7 +3,7 @@ import pathlib
 import tempfile
 
 from databases import department_text, group_entry, make_journal, sql, user_entry, user_text
-from snapshots import NO_GROUP, NOBODY, SNAPSHOT, SnapshotTest, confirmed
+from snapshots import ABSENT, NO_GROUP, NOBODY, SNAPSHOT, SnapshotTest, confirmed
 from support import NOWHERE, Site, resource_id
 
 LAST = {"revision": 2_000_000_000, "epoch": 999_999, "confirmed": 2_000_000_000, "confirmed_epoch": 999_999}
@@ -45,7 +45,7 @@ class UserTest(SnapshotTest):
             with self.subTest(column):
                 other = row | {column: value if column in ("status", "login") else "other"}
                 self.users_say(HEADER, ",".join(other[it] for it in HEADER.split(",")))
-                self.plans(f"user bob 4 to 5 {other['status']}")
+                self.plans(f"user bob 4 to 5{' left' if column == 'status' else f': {column}'}")
         self.users_say(HEADER, ",".join(row[it] for it in HEADER.split(",")))
         self.plans()
 
@@ -75,7 +75,19 @@ class UserTest(SnapshotTest):
         cid = {"revision": 5, "confirmed": 4, "active": 0}
         self.keep(("ann", {}), ("bob", {"revision": 2, "active": 0}), ("cid", cid))
         self.users_say("login", "ann")
+        # an earlier file withdrew cid
         self.plans("user cid 4 to 5 left")
+
+    def test_an_absent_user_whose_last_row_is_not_confirmed(self):
+        self.keep(("ann", {}), ("bob", {"revision": 3, "confirmed": 2}))
+        self.users_say("login", "ann")
+        self.plans(f"user bob 2 to 4 left {ABSENT}")
+
+    def test_the_plan_of_somebody_who_is_back(self):
+        self.keep(("ann", {}), ("bob", {"revision": 3, "active": 0}))
+        for mail, more in ("", ""), ("bob@x", ": mail"):
+            self.users_say("login,mail", "ann,", f"bob,{mail}")
+            self.plans(f"user bob 3 to 4 active again{more}")
 
     def test_somebody_leaves_comes_back_and_leaves(self):
         self.users_say("login", "ann", "bob")
@@ -162,8 +174,8 @@ class RevisionTest(SnapshotTest):
         later = largest | {"epoch": 999_998, "confirmed_epoch": 999_998}
         self.keep(("ann", largest), ("bob", later), ("cid", {"revision": 1_999_999_999}))
         self.users_say("login,mail", "ann,ann@x")
-        lines = ["user ann 2000000000 to 1:1 active", "user bob 999998:2000000000 to 999999:1 left"]
-        self.plans(*lines, "user cid 1999999999 to 2000000000 left")
+        lines = ["user ann 2000000000 to 1:1: mail", f"user bob 999998:2000000000 to 999999:1 left {ABSENT}"]
+        self.plans(*lines, f"user cid 1999999999 to 2000000000 left {ABSENT}")
 
     def test_the_revision_after_the_last_one(self):
         self.keep(("ann", LAST), ("bob", LAST))
@@ -209,7 +221,7 @@ class RejectedTest(SnapshotTest):
         lines = ["login,status,mail", "ann,gone,", "bob,active,\xff", "cid,active,ok"]
         self.site.users.write_bytes("\n".join(lines).encode("latin-1"))
         errors = ["users record 1: S6", "users record 2: S3"]
-        self.plans("user cid 1 to 2 active", "user dee 1 to 2 left", status=1, errors=errors)
+        self.plans("user cid 1 to 2: mail", f"user dee 1 to 2 left {ABSENT}", status=1, errors=errors)
 
     def test_a_group_with_a_rejected_record_is_not_emptied(self):
         names = [f"g{number}" for number in range(5)]
@@ -218,13 +230,13 @@ class RejectedTest(SnapshotTest):
         self.users_say("login", "ann")
         self.groups_say("name,members", "g0,ann  ann", "g1,ann Ann", f"g2,{many}", "g3,ann")
         errors = [f"groups record {place}: {code}" for place, code in enumerate(["S4", "S9", "S10"], 1)]
-        self.plans("group g4 1 to 2 members=0", status=1, errors=errors)
+        self.plans(f"group g4 1 to 2 members=0 {ABSENT}", status=1, errors=errors)
 
     def test_two_records_of_one_name(self):
         self.keep(("ann", {}), ("bob", {}), ("cid", {}))
         self.users_say("login,status", "bob,active", "zoe,active", "BOB,left", "ann,active", "ann,gone", "zoe,active")
         errors = [f"users record {place}: S13" for place in range(1, 7)]
-        self.plans("user cid 1 to 2 left", status=1, errors=errors)
+        self.plans(f"user cid 1 to 2 left {ABSENT}", status=1, errors=errors)
         self.users_say("login,status", "bob,active", "ann,active", "cid,left")
         self.plans("user cid 1 to 2 left")
 
@@ -247,7 +259,7 @@ class RejectedTest(SnapshotTest):
         self.pushes(0, "100000 confirmed, 0 unconfirmed, 0 rejected", options=quiet)
         self.assertEqual(sql(self.site.journal, counts), [(100_000, 1, 1, 1, 0)])
         self.users_say("login", *names[1:], "one-more")
-        self.plans("user u000000 1 to 2 left", status=1, errors=["users record 100000: S12"])
+        self.plans(f"user u000000 1 to 2 left {ABSENT}", status=1, errors=["users record 100000: S12"])
 
 
 class UnsureTest(SnapshotTest):
@@ -261,7 +273,7 @@ class UnsureTest(SnapshotTest):
             self.plans(*plan, status=1, errors=errors, most=0)
             # a later file by which it is certain
             self.users_say("login", "ann")
-            self.plans("user bob 1 to 2 left")
+            self.plans(f"user bob 1 to 2 left {ABSENT}")
 
     def unsure_of_groups(self, content, *errors, plan=()):
         self.fresh()
@@ -270,7 +282,7 @@ class UnsureTest(SnapshotTest):
         with self.subTest(content):
             self.plans(*plan, status=1, errors=errors)
             self.groups_say("name,members", "crew,ann")
-            self.plans("group duo 1 to 2 members=0")
+            self.plans(f"group duo 1 to 2 members=0 {ABSENT}")
 
     def fresh(self):
         self.site = Site(pathlib.Path(tempfile.mkdtemp(dir=self.folder)))
@@ -278,7 +290,7 @@ class UnsureTest(SnapshotTest):
         self.keep(("ann", {}), ("bob", {}), groups=groups)
 
     def test_users_whose_logins_cannot_be_read(self):
-        ann = ["user ann 1 to 2 active"]
+        ann = ["user ann 1 to 2: mail"]
         for bad, code in ((b"b b,", "S4"), (b",", "S4"), (b"\xff,", "S3"), (b"bob", "S2"), (b"bob,,", "S2")):
             errors = [f"users record 2: {code}", f"users record 2 can't be read: {NOBODY}"]
             self.unsure_of_users(b"login,mail\nann,ann@x\n" + bad + b"\n", *errors, plan=ann)
@@ -292,10 +304,10 @@ class UnsureTest(SnapshotTest):
     def test_a_quote_that_is_open(self):
         said = f"users: a quote may be missing: {NOBODY}"
         # with the file's last byte, within its last record
-        self.unsure_of_users(b'login,mail\nann,"ann@x', said, plan=["user ann 1 to 2 active"])
+        self.unsure_of_users(b'login,mail\nann,"ann@x', said, plan=["user ann 1 to 2: mail"])
         self.unsure_of_users(
             b'login,mail\nann,"ann@x\nbob,\n', "users record 1: a quoted field goes over 3 lines; is a quote missing?",
-            said, plan=["user ann 1 to 2 active"],
+            said, plan=["user ann 1 to 2: mail"],
         )
 
     def test_no_record(self):
@@ -310,11 +322,11 @@ class UnsureTest(SnapshotTest):
     def test_a_file_that_ends_within_a_record(self):
         """The last record has too few fields, or a status that is cut."""
         errors = ["users record 2: S2", f"users record 2 can't be read: {NOBODY}"]
-        self.unsure_of_users(b"login,mail,status\nann,ann@x,active\nbob,b", *errors, plan=["user ann 1 to 2 active"])
+        self.unsure_of_users(b"login,mail,status\nann,ann@x,active\nbob,b", *errors, plan=["user ann 1 to 2: mail"])
         self.site = Site(pathlib.Path(tempfile.mkdtemp(dir=self.folder)))
         self.keep(("ann", {}), ("bob", {}), ("cid", {}))
         self.site.users.write_bytes(b"login,mail,status\nann,,active\nbob,,act")
-        self.plans("user cid 1 to 2 left", status=1, errors=["users record 2: S6"])
+        self.plans(f"user cid 1 to 2 left {ABSENT}", status=1, errors=["users record 2: S6"])
 
     def test_groups(self):
         empty, unreadable = ["group crew 1 to 2 members=0"], f"groups record 2 can't be read: {NO_GROUP}"
@@ -334,10 +346,10 @@ class UnsureTest(SnapshotTest):
         self.users_say("login", "ann", "b b")
         self.groups_say("name,members", "crew,ann")
         errors = ["users record 2: S4", f"users record 2 can't be read: {NOBODY}"]
-        self.plans("group duo 1 to 2 members=0", status=1, errors=errors)
+        self.plans(f"group duo 1 to 2 members=0 {ABSENT}", status=1, errors=errors)
         self.users_say("login", "ann")
         self.groups_say("name,members")
-        self.plans("user bob 1 to 2 left", status=1, errors=[f"groups: there is no record: {NO_GROUP}"])
+        self.plans(f"user bob 1 to 2 left {ABSENT}", status=1, errors=[f"groups: there is no record: {NO_GROUP}"])
 
     def test_a_whole_run(self):
         self.users_say("login,mail", "ann,", "bob,")

@@ -1,6 +1,6 @@
 """`push --snapshot`: how its files are read, the options beside it, and the arguments that it takes."""
 from databases import group_entry, sql, user_text
-from snapshots import NOBODY, SNAPSHOT, SnapshotTest
+from snapshots import ABSENT, NOBODY, SNAPSHOT, SnapshotTest
 from support import NOWHERE, USERS_HEADER, scimlink, text
 from test_threshold import excess
 
@@ -56,7 +56,7 @@ class ColumnTest(SnapshotTest):
         """Its fields are empty, like the departments of a file without that column."""
         self.keep(("ann", {"mail": "ann@x"}), ("bob", {"department": "Sales"}), ("cid", {}))
         self.users_say("login", "ann", "bob", "cid")
-        self.plans("user ann 1 to 2 active", "user bob 1 to 2 active")
+        self.plans("user ann 1 to 2: mail", "user bob 1 to 2: department")
 
     def test_aliases(self):
         options = ["--column", "mail=E-Mail", "--column", "login=User ID", "--column", "number=personnel no."]
@@ -135,7 +135,7 @@ class ByteTest(SnapshotTest):
             self.users_say("login,family,status", *records)
             long = f"users record 1: a quoted field goes over {lines} lines; is a quote missing?"
             errors = [long, f"users: a quote may be missing: {NOBODY}"]
-            self.plans("user ann 1 to 2 active", status=1, errors=errors, most=0)
+            self.plans("user ann 1 to 2: family", status=1, errors=errors, most=0)
 
 
 class ThresholdTest(SnapshotTest):
@@ -163,7 +163,7 @@ class ThresholdTest(SnapshotTest):
         left, new = {"revision": 2, "active": 0}, {"confirmed": 0, "id": None}
         self.keep(("ann", {}), ("bob", left), ("cid", new))
         self.users_say("login", "ann")
-        self.plans("user cid new 2 left", most=0)
+        self.plans(f"user cid new 2 left {ABSENT}", most=0)
 
     def test_an_empty_file_passes_no_threshold(self):
         self.keep(("ann", {}))
@@ -174,14 +174,14 @@ class ThresholdTest(SnapshotTest):
         self.keep(("ann", {}), groups=[group_entry("crew", "ann", confirmed=1, id="crew")])
         self.users_say("login", "ann")
         self.groups_say("name", "duo")
-        self.plans("group crew 1 to 2 members=0", "group duo new 1 members=0", most=0)
+        self.plans(f"group crew 1 to 2 members=0 {ABSENT}", "group duo new 1 members=0", most=0)
 
 
 class OptionTest(SnapshotTest):
     def test_a_plan(self):
         self.keep(("ann", {}), ("bob", {"revision": 4}), ("cid", {"revision": 2}))
         self.users_say("login,mail", "eve,", "ann,", "bob,bob@x")
-        lines = ["user bob 4 to 5 active", "user cid 2 to 3 left", "user eve new 1 active"]
+        lines = ["user bob 4 to 5: mail", f"user cid 2 to 3 left {ABSENT}", "user eve new 1 active"]
         self.plans(*lines, most=1)
         self.plans(*lines, most=0, status=1, errors=[excess(1, 0)])
 

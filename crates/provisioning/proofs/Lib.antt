@@ -11,4 +11,5 @@ mod WindowLemmas
 mod AbreastLemmas
 pub mod AskedLemmas
 pub mod InTurnLemmas
+mod CompareLemmas
 mod PlanLemmas

@@ -16,6 +16,8 @@ pub mod Tracks
 pub mod Windows
 pub mod Abreast
 pub mod DryRuns
+pub mod Changes
+pub mod Comparing
 pub mod Plans
 pub mod Leavers
 pub mod Quiet

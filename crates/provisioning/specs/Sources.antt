@@ -1,5 +1,5 @@
 -- What the files of a run say.
-use Rattle.std.specs.Prelude.{◌≡◌, ℕ, Bool, true, false, ◌&&◌, codes, List, [], Option, Some, None, is_none}
+use Rattle.std.specs.Prelude.{◌≡◌, ℕ, Bool, true, false, ◌&&◌, codes, length, drop, List, [], Option, Some, None, is_none}
 use Rattle.std.specs.Prelude.{Result, Ok, Err, is_ok, option_map}
 use denote.Ref.{Bor}
 use Rattle.std.specs.List.{list_all}
@@ -30,6 +30,10 @@ records_of source = records_in source.rows
 abbrev pub as_read : Option (List (Result Row RowFault)) → Result (List (Result Row RowFault)) SourceFault
 as_read (Some rows) = Ok rows
 as_read None = Err Header
+
+-- the records that are absent from the file: those after its own
+abbrev pub absent_in : Source → List (Result Row RowFault)
+absent_in source = drop source.present (records_of source)
 
 -- what reading the file gave
 abbrev pub read_as : Source → Result (List (Result Row RowFault)) SourceFault
@@ -66,6 +70,7 @@ multiline_if None records = []
 pub record IsWithoutRows (of : Kind) (source : Source) : Type 0 where
   pub kind_is : source.kind ≡ of
   pub rows : source.rows ≡ None
+  pub present : source.present ≡ 0
   pub multiline : source.multiline.items ≡ []
   pub ignored : source.ignored.items ≡ []
   pub unsure : source.unsure ≡ None
@@ -75,6 +80,7 @@ pub record Says (of : Kind) (bytes : List ℕ) (source : Source) : Type 0 where
   pub kind_is : source.kind ≡ of
   pub ignored : source.ignored.items ≡ []
   pub unsure : source.unsure ≡ None
+  pub present : source.present ≡ length (records_of source)
   pub rows : (records : List Record) → AreRecordsOf Comma bytes records → read_as source ≡ rows_of of records
   pub multiline : (records : List Record) → AreRecordsOf Comma bytes records
       → source.multiline.items ≡ multiline_if source.rows records

@@ -55,6 +55,11 @@ abbrev pub offered_for : BookMap → Kind → (is_closed : Bool) → Result (Lis
 offered_for book of is_closed (Ok records) = Ok (numbered_by book of records is_closed)
 offered_for book of is_closed (Err why) = Err why
 
+-- how many records it has; none if its header is wrong
+abbrev pub present_in : Result (List Said) SourceFault → ℕ
+present_in (Ok records) = length records
+present_in (Err why) = 0
+
 -- why it isn't certain who is absent, by its records
 abbrev pub unsure_for : (is_closed : Bool) → Result (List Said) SourceFault → Option Unsure
 unsure_for is_closed (Ok records) = unsure is_closed records
@@ -74,6 +79,7 @@ pub record IsNumbered (of : Kind) (file : SnapshotFile) (book : BookMap) (source
   pub kind_is : source.kind ≡ of
   pub rows : source.rows
       ≡ Some (numbered_by book of file.records.items (are_quotes_whole file.is_closed file.multiline.items))
+  pub present : source.present ≡ length file.records.items
   pub multiline : source.multiline.items ≡ file.multiline.items
   pub ignored : source.ignored.items ≡ file.ignored.items
   pub unsure : source.unsure ≡ unsure (are_quotes_whole file.is_closed file.multiline.items) file.records.items
@@ -84,6 +90,8 @@ pub record SaysToday (by : Numbering) (of : Kind) (bytes : List ℕ) (source : S
   pub rows : (records : List Record) → AreRecordsOf (separator_of by of) bytes records → read_as source
       ≡ offered_for by.book of (are_quotes_whole (is_closed (separator_of by of) bytes) (multiline_of records))
       (snapshot_of of (aliases_of by of) records)
+  pub present : (records : List Record) → AreRecordsOf (separator_of by of) bytes records
+      → source.present ≡ present_in (snapshot_of of (aliases_of by of) records)
   pub multiline : (records : List Record) → AreRecordsOf (separator_of by of) bytes records
       → source.multiline.items ≡ multiline_if source.rows records
   pub ignored : (records : List Record) → AreRecordsOf (separator_of by of) bytes records

@@ -4,6 +4,8 @@
 #![tactic(auto)]
 
 mod carrying;
+mod changes;
+mod comparing;
 mod dialing;
 mod doubts;
 mod dry_runs;
@@ -24,6 +26,7 @@ mod older;
 mod orders;
 mod over_tcp;
 mod paces;
+mod plan_lines;
 mod planning;
 mod pushing;
 mod quiet;

@@ -45,7 +45,10 @@ fn stop_of(cause: &ChangeFault) -> RunFault
 }
 
 /// The rows among the records.
-fn rows_in(alloc: Global, records: &[Result<Row, RowFault>]) -> Result<Vec<Row>, AllocError>
+pub(crate) fn rows_in(
+    alloc: Global,
+    records: &[Result<Row, RowFault>],
+) -> Result<Vec<Row>, AllocError>
     ensures { IfOk result (λ rows. rows.items ≡ rows_in records.now) }
 {
     let mut rows = Vec::new(alloc);

@@ -3,7 +3,7 @@ ghost use Rattle.std.specs.Prelude.{◌≡◌, IfOk, MatchResult, is_ok};
 ghost use Rattle.std.specs.List.{list_all};
 ghost use Rattle.scim_key.specs.declared.records.Kind.TheVariants.{Group};
 ghost use Rattle.provisioning.specs.Reading.{FailsAt, FailsBy, FailsIfNamed, IsReadFrom, IsReadIfNamed, ReadsSources, SaysAs};
-ghost use Rattle.provisioning.specs.Sources.{IsWithoutRows, Says, are_whole, is_whole, label, path_in, records_of};
+ghost use Rattle.provisioning.specs.Sources.{IsWithoutRows, Says, absent_in, are_whole, is_whole, label, path_in, records_of};
 ghost use Rattle.provisioning.specs.Today.{numbering_in};
 
 use crate::doubts::{tell_ignored, tell_unsure};
@@ -22,6 +22,8 @@ pub struct Source {
     pub kind: Kind,
     /// Its records; none if its header isn't that of such a file (S1).
     pub rows: Option<SourceRows>,
+    /// How many of these are in the file. The others are absent from a snapshot, and come after them.
+    pub present: usize,
     /// Those with a field over several lines, in order.
     pub multiline: Vec<Multiline>,
     /// The names of the columns of a snapshot that are ignored, as its header spells them.
@@ -62,6 +64,13 @@ impl Source {
         }
     }
 
+    /// The records that are absent from the file, which is a snapshot then.
+    pub(crate) fn absent(&self) -> &[Result<Row, RowFault>]
+        ensures { result.now ≡ absent_in self.now }
+    {
+        self.records().get(self.present..).unwrap_or(&[])
+    }
+
     /// Whether the file has its header, each of its records is a row, and it is certain who is absent.
     pub fn is_whole(&self) -> bool
         ensures { result ≡ is_whole self.now }
@@ -92,6 +101,7 @@ pub(crate) fn without_rows(alloc: Global, kind: Kind) -> Source
     Source {
         kind,
         rows: None,
+        present: 0,
         multiline: Vec::new(alloc),
         ignored: Vec::new(alloc),
         unsure: None,
@@ -105,6 +115,7 @@ fn read_revisions(alloc: Global, kind: Kind, bytes: &[u8]) -> Result<Source, All
     match read_file(alloc, kind, bytes) {
         Ok(SourceFile { rows, multiline }) => Ok(Source {
             kind,
+            present: rows.as_slice().len(),
             rows: Some(rows),
             multiline,
             ignored: Vec::new(alloc),

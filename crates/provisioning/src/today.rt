@@ -69,11 +69,13 @@ fn numbered(
         is_closed,
     } = file;
     let are_quotes_whole = is_closed && multiline.is_empty();
+    let present = records.len();
     let offered = number(alloc, connector, kind, records, are_quotes_whole)?;
     let Numbered { rows, unsure } = offered;
     Ok(Source {
         kind,
         rows: Some(SourceRows::of(rows)),
+        present,
         multiline,
         ignored,
         unsure,
