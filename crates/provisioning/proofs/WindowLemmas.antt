@@ -14,7 +14,7 @@ use Rattle.provisioning.specs.Records.{most_exchanges}
 use Rattle.provisioning.specs.Runs.{Done, IsUntold, NeverGivesUp, Tells, streak_of, tally_of, tally_with}
 use Rattle.provisioning.specs.Streaks.{go_on_after, streak_with}
 use Rattle.provisioning.specs.Tracks.{Advances, Begins, Closes, fresh}
-use Rattle.provisioning.specs.Windows.{AllMoved, BeginsNext, Breaks, GivesUp, Goes, IsFinished, IsThrough, IsWith, Keeps, Leaves, LooksThrough, Moves, PartMoved, PushesAbreast, PushesThrough, Scene, Stops, TakesFirst, at_start, done_of, name_of, names_in, scene_of, with_first}
+use Rattle.provisioning.specs.Windows.{AllMoved, BeginsNext, GivesUp, Goes, IsFinished, IsThrough, IsWith, Keeps, Leaves, LooksThrough, Moves, PartMoved, PushesAbreast, PushesThrough, Scene, Stops, TakesFirst, at_start, done_of, name_of, names_in, scene_of, with_first}
 use Rattle.provisioning.specs.declared.faults.RunFault.{RunFault}
 use Rattle.provisioning.specs.declared.faults.RunFault.TheVariants.{Memory}
 use Rattle.provisioning.specs.declared.pushing.Tally.{Tally}

@@ -234,8 +234,8 @@ module _ {I O J : Type 0} (remaining : I → Option (List ℕ))
   Finishes opened first old new (Err fault) = Leaves opened [] (with_first first old) new fault
 
   -- all records were reported, in their order, and counted
-  pub record IsThrough (limit : ℕ) (opened : List (Opening I O)) (old new : Scene I O J) (before after : Option (List Done))
-      (tally : Tally) : Type 0 where
+  pub record IsThrough (limit : ℕ) (opened : List (Opening I O)) (old new : Scene I O J)
+      (before after : Option (List Done)) (tally : Tally) : Type 0 where
     pub done : List Done
     pub names_are : map (λ d. d.0) done ≡ names_in old
     pub moves : Moves opened done old new
