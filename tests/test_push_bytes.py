@@ -113,7 +113,7 @@ class PartsTest(PeerTest):
         steps = [said for part in PARTS for said in (NO_HITS, step(part), step(part))]
         lines = [f"user {name} unconfirmed {code}" for name in names]
         with Peer(steps) as peer:
-            run = self.site.push(peer.address)
+            run = self.site.push(peer.address, "--give-up-after", "0")
         self.assert_reports(run, 1)
         self.assert_same_lines(run.lines, lines)
         wanted = [[f"GET /v2/Users?filter=userName+eq+%22{name}%22 HTTP/1.1", CREATE, CREATE] for name in names]

@@ -7,14 +7,17 @@ use Rattle.commands.specs.Layouts.{is_snapshot}
 use Rattle.commands.specs.Simulating.{is_set}
 use Rattle.commands.specs.Words.{GivesCount, IsNumber, number_in}
 use Rattle.commands.specs.declared.manners.Manner.{Manner}
-use Rattle.commands.specs.declared.manners.TheConstants.{MOST_LEAVERS}
+use Rattle.commands.specs.declared.manners.TheConstants.{LONGEST_STREAK, MOST_LEAVERS}
 use Rattle.commands.specs.declared.status.CommandFault.{CommandFault}
 use Rattle.commands.specs.declared.status.CommandFault.TheVariants as fault
 
 -- the text spells this number, which is within the limit
+abbrev pub IsUpTo : (limit : ℕ) → Option (List ℕ) → ℕ → Type 0
+IsUpTo limit None number = ⊥
+IsUpTo limit (Some text) number = IsNumber 32 text × (number ≡ number_in text) × (number ≤ limit)
+
 abbrev pub IsMost : Option (List ℕ) → ℕ → Type 0
-IsMost None most = ⊥
-IsMost (Some text) most = IsNumber 32 text × (most ≡ number_in text) × (most ≤ MOST_LEAVERS)
+IsMost text most = IsUpTo MOST_LEAVERS text most
 
 -- the number of `--most-leavers`, if it is there, as it must be with snapshots; or its text spells none that is within
 -- the limit
@@ -28,6 +31,13 @@ abbrev pub GivesStreams : (value text : Option (List ℕ)) → Result ℕ Comman
 GivesStreams None text result = result ≡ Ok 1
 GivesStreams (Some value) text result = GivesCount MOST_STREAMS fault.Streams text result
 
+-- ten if `--give-up-after` isn't there; else the number that its text spells, within the limit; or it spells none
+abbrev pub GivesGiveUp : (value text : Option (List ℕ)) → Result ℕ CommandFault → Type 0
+GivesGiveUp None text result = result ≡ Ok 10
+GivesGiveUp (Some value) text (Ok limit) = IsUpTo LONGEST_STREAK text limit
+GivesGiveUp (Some value) text (Err why) =
+    (why ≡ fault.GiveUpAfter) × ((limit : ℕ) → IsUpTo LONGEST_STREAK text limit → ⊥)
+
 -- what these arguments want
 pub record IsManner (found : Found) (manner : Manner) : Type 0 where
   pub planned : manner.is_planned ≡ is_set (one_text found (codes "plan"))
@@ -37,6 +47,8 @@ pub record IsManner (found : Found) (manner : Manner) : Type 0 where
   pub streams : GivesStreams (first_value found (codes "streams")) (one_text found (codes "streams"))
       (Ok manner.delivery.pace.streams)
   pub leavers_first : manner.delivery.pace.leavers_first ≡ is_set (one_text found (codes "leavers-first"))
+  pub give_up : GivesGiveUp (first_value found (codes "give-up-after")) (one_text found (codes "give-up-after"))
+      (Ok manner.delivery.pace.give_up_after)
 
 -- that; or one of the numbers isn't within its limits
 abbrev pub GivesManner : Found → Result Manner CommandFault → Type 0
@@ -44,4 +56,5 @@ GivesManner found (Ok manner) = IsManner found manner
 GivesManner found (Err why) =
     GivesMost (one_text found (codes "most-leavers")) (first_value found (codes "most-leavers")) (is_snapshot found)
     (Err why)
-    ⊎ GivesStreams (first_value found (codes "streams")) (one_text found (codes "streams")) (Err why)
+    ⊎ (GivesStreams (first_value found (codes "streams")) (one_text found (codes "streams")) (Err why)
+    ⊎ GivesGiveUp (first_value found (codes "give-up-after")) (one_text found (codes "give-up-after")) (Err why))

@@ -68,6 +68,7 @@ fault_status fault.Requests = Usage
 fault_status fault.LongestSearch = Usage
 fault_status fault.MostLeavers = Usage
 fault_status fault.Streams = Usage
+fault_status fault.GiveUpAfter = Usage
 fault_status fault.Column = Usage
 fault_status fault.Separator = Usage
 fault_status fault.Show = Usage

@@ -2,7 +2,7 @@
 ghost use Rattle.std.specs.Prelude.{◌≡◌, codes};
 ghost use Rattle.clap.specs.Matches.{first_value, found_of, one_text};
 ghost use Rattle.commands.specs.Layouts.{is_snapshot};
-ghost use Rattle.commands.specs.Manners.{GivesManner, GivesMost, GivesStreams};
+ghost use Rattle.commands.specs.Manners.{GivesGiveUp, GivesManner, GivesMost, GivesStreams};
 ghost use Rattle.commands.specs.Simulating.{is_set};
 
 use crate::layouts::is_snapshot;
@@ -13,6 +13,12 @@ use provisioning::{MOST_STREAMS, Pace};
 
 /// The most users that `--most-leavers` may allow.
 pub const MOST_LEAVERS: u32 = 1_000_000;
+
+/// The most records in a row that `--give-up-after` may name.
+pub const LONGEST_STREAK: u32 = 1_000_000;
+
+/// After how many records in a row that met the same obstacle a push gives up, unless the arguments say otherwise.
+const GIVE_UP_AFTER: u32 = 10;
 
 /// How a push is carried out.
 #[derive(Clone, Copy)]
@@ -30,7 +36,7 @@ pub struct Manner {
 pub struct Delivery {
     /// Only the records that aren't confirmed are printed, and counts.
     pub is_quiet: bool,
-    /// How many records are pushed at once, and in which order.
+    /// How many records are pushed at once, in which order, and when the run gives up.
     pub pace: Pace,
 }
 
@@ -47,6 +53,7 @@ impl Manner {
                 pace: Pace {
                     streams: streams(words)?,
                     leavers_first: leavers_first(words),
+                    give_up_after: give_up_after(words)?,
                 },
             },
         })
@@ -96,4 +103,19 @@ fn leavers_first(words: &ArgMatches<'_>) -> bool
     ensures { result ≡ is_set (one_text (found_of words.now) (codes "leavers-first")) }
 {
     words.get_one("leavers-first").unwrap_or(false)
+}
+
+/// After how many records in a row that met the same obstacle a push gives up. With 0 it doesn't.
+fn give_up_after(words: &ArgMatches<'_>) -> Result<u32, CommandFault>
+    ensures { GivesGiveUp (first_value (found_of words.now) (codes "give-up-after"))
+        (one_text (found_of words.now) (codes "give-up-after")) result }
+{
+    match (
+        words.get_str("give-up-after"),
+        words.get_one("give-up-after"),
+    ) {
+        (None, _) => Ok(GIVE_UP_AFTER),
+        (Some(_), Some(limit)) if limit <= LONGEST_STREAK => Ok(limit),
+        _ => Err(CommandFault::GiveUpAfter),
+    }
 }

@@ -6,7 +6,7 @@ ghost use Rattle.commands.specs.Statuses.{fault_status, file_fault, journal_faul
 ghost use Rattle.commands.specs.declared.status.CommandFault.TheVariants.{Memory, Output, Unopened};
 
 use crate::looping::LoopFault;
-use crate::manners::MOST_LEAVERS;
+use crate::manners::{LONGEST_STREAK, MOST_LEAVERS};
 use crate::simulating::EventsFault;
 use crate::words::{MOST_REQUESTS, MOST_SEARCH_SECONDS};
 use connection::ConnectionFault;
@@ -91,6 +91,8 @@ pub enum CommandFault {
     MostLeavers,
     #[error("error: --streams is 1 to {most}", most = MOST_STREAMS)]
     Streams,
+    #[error("error: --give-up-after is 0 to {most}", most = LONGEST_STREAK)]
+    GiveUpAfter,
     #[error("error: --column is OURS=THEIRS, with each column of ours at most once")]
     Column,
     #[error("error: --separator is comma, semicolon or tab")]
@@ -151,7 +153,7 @@ impl CommandFault {
             CommandFault::Words | CommandFault::Subcommand => Status::Usage,
             CommandFault::Base | CommandFault::Listen | CommandFault::To => Status::Usage,
             CommandFault::Requests | CommandFault::LongestSearch => Status::Usage,
-            CommandFault::MostLeavers => Status::Usage,
+            CommandFault::MostLeavers | CommandFault::GiveUpAfter => Status::Usage,
             CommandFault::Column | CommandFault::Separator => Status::Usage,
             CommandFault::Streams | CommandFault::Show => Status::Usage,
             CommandFault::Events(_) => Status::Usage,

@@ -14,9 +14,10 @@ use Rattle.provisioning.specs.Orders.{IsPushOrder}
 use Rattle.provisioning.specs.Leavers.{is_switched_off}
 use Rattle.provisioning.specs.Runs.{Done}
 use Rattle.provisioning.specs.Tracks.{Advances, Begins, Closes, faulted, fresh}
-use Rattle.provisioning.specs.Windows.{AllMoved, AreMoves, Causes, IsBegun, IsContinued, IsMove, IsMoved, IsReported, IsWith, LooksThrough, PartMoved, Point, PushesAbreast, Scene, at_start, name_of, names_in}
+use Rattle.provisioning.specs.Windows.{AllMoved, AreMoves, Breaks, Causes, IsBegun, IsContinued, IsMove, IsMoved, IsReported, IsWith, LooksThrough, PartMoved, Point, PushesAbreast, Scene, at_start, name_of, names_in}
 use Rattle.provisioning.specs.declared.faults.RunFault.{RunFault}
 use Rattle.provisioning.specs.declared.pushing.Tally.{Tally}
+use Rattle.provisioning.specs.declared.records.Standing.{Standing}
 use Rattle.provisioning.specs.declared.tracks.Account.{Account}
 use Rattle.provisioning.specs.declared.tracks.Track.{Track}
 use Rattle.provisioning.specs.declared.tracks.Track.TheVariants.{UnderWay, Done as IsDone}
@@ -174,6 +175,14 @@ module _ {J I O : Type 0} (P Q : Type 0) (h : Journals J) (received : I → Opti
   advanced (UnderWay a f) set bs opened old new fault (inr e) ends = heard P Q h received posted base last a f set bs opened old new (Err e.0) e.1 ends
   advanced (IsDone a standing) set bs opened old new fault (none, same, is) ends = absurd (cc is)
 
+  reported : (opened : List (Opening I O)) (scene : Scene I O J) (rest : List (Track I O)) (new : Connector J) (a : Account) (standing : Standing) → IsWith (IsDone a standing) rest scene.tracks → new ≡ scene.state
+      → ((bs : List Known) → tracks_of bs ≡ rest → Ends [] bs new.book) → (bs : List Known) → tracks_of bs ≡ scene.tracks → Ends opened bs scene.state.book
+  reported opened scene rest new a standing with same from bs are =
+      let done = IsDone a standing in
+      let out = take_out Sets bs rest done (subst (λ (l : List (Track I O)). Holds done rest l) (sym are) (holds_of done rest scene.tracks with)) in
+      makes_in P Q h received posted base last (done, out.0) out.1 bs opened scene.state.book out.3
+      (makes_done P Q h received posted base last a standing out.0 out.1 opened scene.state.book (unopened opened out.1 scene.state.book (on_book [] out.1 scene.state new same (from out.1 out.2))))
+
   caused : (opened : List (Opening I O)) (scene : Scene I O J) (rest : List (Track I O)) (new : Connector J) (fault : RunFault) → Causes received posted h base window opened scene rest new fault
       → ((bs : List Known) → tracks_of bs ≡ rest → Ends [] bs new.book) → (bs : List Known) → tracks_of bs ≡ scene.tracks → Ends opened bs scene.state.book
   caused opened scene rest new fault (inl c) from bs are =
@@ -182,26 +191,31 @@ module _ {J I O : Type 0} (P Q : Type 0) (h : Journals J) (received : I → Opti
       let out = take_out Sets bs rest c.0 (subst (λ (l : List (Track I O)). Holds c.0 rest l) (sym are) (holds_of c.0 rest scene.tracks c.1)) in
       makes_in P Q h received posted base last (c.0, out.0) out.1 bs opened scene.state.book out.3
       (advanced c.0 out.0 out.1 opened scene.state new fault c.2 (unopened opened out.1 new.book (from out.1 out.2)))
-  caused opened scene rest new fault (inr (inr c)) from bs are =
-      let done = IsDone c.0 c.1 in
-      let out = take_out Sets bs rest done (subst (λ (l : List (Track I O)). Holds done rest l) (sym are) (holds_of done rest scene.tracks c.2)) in
-      makes_in P Q h received posted base last (done, out.0) out.1 bs opened scene.state.book out.3
-      (makes_done P Q h received posted base last c.0 c.1 out.0 out.1 opened scene.state.book (unopened opened out.1 scene.state.book (on_book [] out.1 scene.state new c.4 (from out.1 out.2))))
+  caused opened scene rest new fault (inr (inr c)) from bs are = reported opened scene rest new c.0 c.1 c.2 c.4 from bs are
 
   -- ---- records
 
-  all_moved : (names : List RecordName) (first opened : List (Opening I O)) (old new : Connector J) (before after : Option (List Done)) (tally : Tally) → AreApart names
-      → AllMoved received posted h base window names first old new before after tally → Ends opened [] new.book → Ends (first ++ opened) [] old.book
-  all_moved names first opened old new before after tally apart all ends =
+  all_moved : (limit : ℕ) (names : List RecordName) (first opened : List (Opening I O)) (old new : Connector J) (before after : Option (List Done)) (tally : Tally) → AreApart names
+      → AllMoved received posted h base window limit names first old new before after tally → Ends opened [] new.book → Ends (first ++ opened) [] old.book
+  all_moved limit names first opened old new before after tally apart all ends =
       moves_more all.moves.0 first opened all.done (at_start names old) (at_start [] new) all.moves.1 (λ bs are away. subst (λ (l : List Known). Ends opened l new.book) (sym (no_more bs are)) ends) [] refl apart
 
-  part_moved : (names : List RecordName) (opened : List (Opening I O)) (old new : Connector J) (fault : RunFault) → AreApart names
-      → PartMoved received posted h base window names opened old new fault → Ends [] [] new.book → Ends opened [] old.book
-  part_moved names opened old new fault apart part ends =
-      let s = part.stops in
-      on_streams opened (s.first ++ s.last) [] old.book s.opened_are
-      (moves_more s.moves.0 s.first s.last part.done (at_start names old) s.between s.moves.1
-      (λ bs are away. caused s.last s.between part.rest part.between fault s.causes (λ cs these. looked part.rest [] part.between new part.looked ends cs these) bs are) [] refl apart)
+  part_moved : (limit : ℕ) (names : List RecordName) (opened : List (Opening I O)) (old new : Connector J) (fault : RunFault) → AreApart names
+      → PartMoved received posted h base window limit names opened old new fault → Ends [] [] new.book → Ends opened [] old.book
+  part_moved limit names opened old new fault apart part ends = broken part.breaks
+    where
+      looks : (bs : List Known) → tracks_of bs ≡ part.rest → Ends [] bs part.between.book
+      looks bs are = looked part.rest [] part.between new part.looked ends bs are
+
+      broken : Breaks received posted h base window limit opened part.done (at_start names old) part.rest part.between fault → Ends opened [] old.book
+      broken (inl (s, never)) =
+          on_streams opened (s.first ++ s.last) [] old.book s.opened_are
+          (moves_more s.moves.0 s.first s.last part.done (at_start names old) s.between s.moves.1
+          (λ bs are away. caused s.last s.between part.rest part.between fault s.causes looks bs are) [] refl apart)
+      broken (inr u) =
+          on_streams opened (opened ++ []) [] old.book (sym (append-nil opened))
+          (moves_more u.moves.0 opened [] u.earlier (at_start names old) u.between u.moves.1
+          (λ bs are away. reported [] u.between part.rest part.between u.account u.standing u.tracks u.state looks bs are) [] refl apart)
 
 module _ {J I O : Type 0} (P Q : Type 0) (h : Journals J) (received : I → Option (List ℕ)) (posted : O → Option (List ℕ)) (base : List ℕ) (window : ℕ) where
   abbrev Does : List (Opening I O) → (book last : BookMap) → Type 0
@@ -210,21 +224,21 @@ module _ {J I O : Type 0} (P Q : Type 0) (h : Journals J) (received : I → Opti
   whole : (opened : List (Opening I O)) (book last : BookMap) → Makes P Q h received posted base last opened [] book → Does opened book last
   whole opened book last m = record { moves = m.moves; does = subst (λ waits. AbreastDoes h received posted base m.moves waits book last) m.fits m.does; streams = m.streams }
 
-  abreast_moved : (names : List RecordName) (opened : List (Opening I O)) (old new : Connector J) (before after : Option (List Done)) (result : Result Tally RunFault) → AreApart names
-      → PushesAbreast received posted h base window names opened old new before after result → Makes P Q h received posted base new.book opened [] old.book
-  abreast_moved names opened old new before after (Ok tally) apart all =
+  abreast_moved : (limit : ℕ) (names : List RecordName) (opened : List (Opening I O)) (old new : Connector J) (before after : Option (List Done)) (result : Result Tally RunFault) → AreApart names
+      → PushesAbreast received posted h base window limit names opened old new before after result → Makes P Q h received posted base new.book opened [] old.book
+  abreast_moved limit names opened old new before after (Ok tally) apart all =
       on_streams P Q h received posted base window new.book opened (opened ++ []) [] old.book (sym (append-nil opened))
-      (all_moved P Q h received posted base window new.book names opened [] old new before after tally apart all (makes_end P Q h received posted base new.book))
-  abreast_moved names opened old new before after (Err fault) apart part =
-      part_moved P Q h received posted base window new.book names opened old new fault apart part (makes_end P Q h received posted base new.book)
+      (all_moved P Q h received posted base window new.book limit names opened [] old new before after tally apart all (makes_end P Q h received posted base new.book))
+  abreast_moved limit names opened old new before after (Err fault) apart part =
+      part_moved P Q h received posted base window new.book limit names opened old new fault apart part (makes_end P Q h received posted base new.book)
 
-  both_moved : (users groups : List RecordName) (opened : List (Opening I O)) (old new : Connector J) (before after : Option (List Done)) (result : Result Tally RunFault) → AreApart users → AreApart groups
-      → PushesBoth received posted h base window users groups opened old new before after result → Does opened old.book new.book
-  both_moved users groups opened old new before after result apart away (inl b) = whole opened old.book new.book
+  both_moved : (limit : ℕ) (users groups : List RecordName) (opened : List (Opening I O)) (old new : Connector J) (before after : Option (List Done)) (result : Result Tally RunFault) → AreApart users → AreApart groups
+      → PushesBoth received posted h base window limit users groups opened old new before after result → Does opened old.book new.book
+  both_moved limit users groups opened old new before after result apart away (inl b) = whole opened old.book new.book
       (on_streams P Q h received posted base window new.book opened (b.0 ++ b.1) [] old.book b.6
-      (all_moved P Q h received posted base window new.book users b.0 b.1 old b.2 before b.3 b.4 apart b.7 (abreast_moved groups b.1 b.2 new b.3 after b.5 away b.8)))
-  both_moved users groups opened old new before after result apart away (inr f) = whole opened old.book new.book
-      (part_moved P Q h received posted base window new.book users opened old new f.0 apart f.1 (makes_end P Q h received posted base new.book))
+      (all_moved P Q h received posted base window new.book limit users b.0 b.1 old b.2 before b.3 b.4 apart b.7 (abreast_moved limit groups b.1 b.2 new b.3 after b.5 away b.8)))
+  both_moved limit users groups opened old new before after result apart away (inr f) = whole opened old.book new.book
+      (part_moved P Q h received posted base window new.book limit users opened old new f.0 apart f.1 (makes_end P Q h received posted base new.book))
 
   -- ---- in order
 
@@ -233,10 +247,10 @@ module _ {J I O : Type 0} (P Q : Type 0) (h : Journals J) (received : I → Opti
   order_apart true book names order =
       keys_apart book names (subst (λ (l : List RecordName). IsPermutation (keys book) l) (sym order.2) (parted (is_switched_off (book_of book)) (keys book) order.0 order.1.same))
 
-  pub abreast_made : (leavers_first : Bool) (opened : List (Opening I O)) (old new : Connector J) (before after : Option (List Done)) (result : Result Tally RunFault)
-      → PushesAllAbreast received posted h base window leavers_first opened old new before after result → Does opened old.book new.book
-  abreast_made leavers_first opened old new before after result (inl p) =
+  pub abreast_made : (limit : ℕ) (leavers_first : Bool) (opened : List (Opening I O)) (old new : Connector J) (before after : Option (List Done)) (result : Result Tally RunFault)
+      → PushesAllAbreast received posted h base window limit leavers_first opened old new before after result → Does opened old.book new.book
+  abreast_made limit leavers_first opened old new before after result (inl p) =
       let split = take-append-drop (prefix_len is_user p.0) p.0 in
       let apart : AreApart (users_of p.0 ++ groups_of p.0) = subst AreApart (sym split) (order_apart leavers_first old.book p.0 p.1) in
-      both_moved (users_of p.0) (groups_of p.0) opened old new before after result (apart_front (users_of p.0) (groups_of p.0) apart) (apart_back (users_of p.0) (groups_of p.0) apart) p.2
-  abreast_made leavers_first opened old new before after result (inr n) = record { moves = []; does = (refl, ap (λ (c : Connector J). c.book) n.2); streams = tt }
+      both_moved limit (users_of p.0) (groups_of p.0) opened old new before after result (apart_front (users_of p.0) (groups_of p.0) apart) (apart_back (users_of p.0) (groups_of p.0) apart) p.2
+  abreast_made limit leavers_first opened old new before after result (inr n) = record { moves = []; does = (refl, ap (λ (c : Connector J). c.book) n.2); streams = tt }

@@ -164,8 +164,8 @@ module _ {R J I O P Q : Type 0} (g : Registries R) (h : Journals J) (received : 
     pushes_are_moves base sources opened old new before after result carries all = push_made P Q h received posted base heard told sources opened old new before after result carries all
 
     pub pushes_in_turn_are_moves : PushesInTurnAreMoves g h received posted remaining contents heard told waiting
-    pushes_in_turn_are_moves base leavers_first sources opened old new before after result carries all =
-        turn_made P Q h received posted base heard told leavers_first sources opened old new before after result carries all
+    pushes_in_turn_are_moves base leavers_first limit sources opened old new before after result carries all =
+        turn_made P Q h received posted base heard told leavers_first limit sources opened old new before after result carries all
 
     pub pushes_at_paces_are_moves : PushesAtPacesAreMoves g h received posted remaining contents heard told waiting
     pushes_at_paces_are_moves base pace sources opened old new before after result carries all = pace_made P Q h received posted base heard told pace sources opened old new before after result carries all

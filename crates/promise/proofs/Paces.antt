@@ -72,7 +72,7 @@ module _ {J I O : Type 0} (P Q : Type 0) (h : Journals J) (received : I → Opti
   pace_made heard told pace sources opened old new before after result carries all = elim carries [
     | inl c ↦ then_makes [] opened old.book c.0.book new.book
         (as_abreast [] old.book c.0.book (offers_made P Q h received posted base sources old c.0 (heard before) (heard c.1) (Ok c.2) c.4 all))
-        (abreast_made P Q h received posted base (window_of pace.streams) pace.leavers_first opened c.0 new (told c.1) (told after) c.3 c.5)
+        (abreast_made P Q h received posted base (window_of pace.streams) pace.give_up_after pace.leavers_first opened c.0 new (told c.1) (told after) c.3 c.5)
     | inr f ↦ subst (λ (l : List (Opening I O)). Makes l old.book new.book) (sym f.1)
         (as_abreast [] old.book new.book (offers_made P Q h received posted base sources old new (heard before) (heard after) (Err f.0) f.2 all))
   ]

@@ -130,10 +130,10 @@ module _ {J I O : Type 0} (P Q : Type 0) (h : Journals J) (received : I → Opti
   at_made [] opened old new fault ends = absurd ends
   at_made (name ∷ names) opened old new fault ends = run_made name opened old new fault ends
 
-  each_made : (names : List RecordName) (opened : List (Opening I O)) (old new : Connector J) (before after : Option (List Done)) (result : Result Tally RunFault)
-      → PushesEach received posted h base names opened old new before after result → Makes opened old.book new.book
-  each_made names opened old new before after (Ok tally) all = done_made all.done opened old new all.are
-  each_made names opened old new before after (Err fault) part =
+  each_made : (limit : ℕ) (names : List RecordName) (opened : List (Opening I O)) (old new : Connector J) (before after : Option (List Done)) (result : Result Tally RunFault)
+      → PushesEach received posted h base limit names opened old new before after result → Makes opened old.book new.book
+  each_made limit names opened old new before after (Ok tally) all = done_made all.done opened old new all.are
+  each_made limit names opened old new before after (Err fault) part =
       on_streams opened (part.first ++ part.last) old.book new.book part.opened_are
       (both part.first part.last old.book part.between.book new.book (done_made part.done part.first old part.between part.are) the_last)
     where
@@ -143,10 +143,10 @@ module _ {J I O : Type 0} (P Q : Type 0) (h : Journals J) (received : I → Opti
         | inr untold ↦ unchanged part.last part.between new untold.1
       ]
 
-  in_turn_made : (leavers_first : Bool) (opened : List (Opening I O)) (old new : Connector J) (before after : Option (List Done)) (result : Result Tally RunFault)
-      → PushesInTurn received posted h base leavers_first opened old new before after result → Makes opened old.book new.book
-  in_turn_made leavers_first opened old new before after result pushes = elim pushes [
-    | inl some ↦ each_made some.0 opened old new before after result some.2
+  in_turn_made : (leavers_first : Bool) (limit : ℕ) (opened : List (Opening I O)) (old new : Connector J) (before after : Option (List Done)) (result : Result Tally RunFault)
+      → PushesInTurn received posted h base leavers_first limit opened old new before after result → Makes opened old.book new.book
+  in_turn_made leavers_first limit opened old new before after result pushes = elim pushes [
+    | inl some ↦ each_made limit some.0 opened old new before after result some.2
     | inr none ↦ unchanged opened old new none.2
   ]
 
@@ -194,17 +194,17 @@ module _ {J I O : Type 0} (P Q : Type 0) (h : Journals J) (received : I → Opti
 
   -- ---- a push
 
-  pub turn_made : {T : Type 0} (heard : T → Option (List Judged)) (told : T → Option (List Done)) (leavers_first : Bool) (sources : Sources) (opened : List (Opening I O)) (old new : Connector J) (before after : T)
-      (result : Result Outcome RunFault) → CarriesBy (PushesInTurn received posted h base leavers_first) h heard told sources opened old new before after result
+  pub turn_made : {T : Type 0} (heard : T → Option (List Judged)) (told : T → Option (List Done)) (leavers_first : Bool) (limit : ℕ) (sources : Sources) (opened : List (Opening I O)) (old new : Connector J) (before after : T)
+      (result : Result Outcome RunFault) → CarriesBy (PushesInTurn received posted h base leavers_first limit) h heard told sources opened old new before after result
       → AllByRecursion IsRow (rows_of_files sources) → Makes opened old.book new.book
-  turn_made heard told leavers_first sources opened old new before after result carries all = elim carries [
+  turn_made heard told leavers_first limit sources opened old new before after result carries all = elim carries [
     | inl c ↦ both [] opened old.book c.0.book new.book
         (offers_made sources old c.0 (heard before) (heard c.1) (Ok c.2) c.4 all)
-        (in_turn_made leavers_first opened c.0 new (told c.1) (told after) c.3 c.5)
+        (in_turn_made leavers_first limit opened c.0 new (told c.1) (told after) c.3 c.5)
     | inr f ↦ on_streams opened [] old.book new.book f.1 (offers_made sources old new (heard before) (heard after) (Err f.0) f.2 all)
   ]
 
   pub push_made : {T : Type 0} (heard : T → Option (List Judged)) (told : T → Option (List Done)) (sources : Sources) (opened : List (Opening I O)) (old new : Connector J) (before after : T)
       (result : Result Outcome RunFault) → Carries received posted h heard told base sources opened old new before after result
       → AllByRecursion IsRow (rows_of_files sources) → Makes opened old.book new.book
-  push_made heard told sources opened old new before after result carries all = turn_made heard told false sources opened old new before after result carries all
+  push_made heard told sources opened old new before after result carries all = turn_made heard told false 0 sources opened old new before after result carries all

@@ -9,7 +9,7 @@ use Rattle.provisioning.specs.Onward.{Onward}
 use Rattle.provisioning.specs.Openings.{Opening}
 use Rattle.provisioning.specs.Runs.{Done}
 use Rattle.provisioning.specs.Tracks.{Advances, Closes, IsLearnt}
-use Rattle.provisioning.specs.Windows.{AreMoves, Causes, IsMove, LooksThrough, Point, PushesAbreast, Scene}
+use Rattle.provisioning.specs.Windows.{AreMoves, Breaks, Causes, IsMove, LooksThrough, Point, PushesAbreast, Scene}
 use Rattle.provisioning.specs.declared.faults.RecordFault.{RecordFault}
 use Rattle.provisioning.specs.declared.faults.RunFault.{RunFault}
 use Rattle.provisioning.specs.declared.pushing.Tally.{Tally}
@@ -55,28 +55,32 @@ module _ {I O J : Type 0} (remaining : I → Option (List ℕ)) (contents : O �
   looks_onward [] old new same = same_onward old new same
   looks_onward (track ∷ tracks) old new l = onward_more old.book l.1.book new.book (closes_onward track old l.1 l.0 l.2) (looks_onward tracks l.1 new l.3)
 
-  pub abreast_onward : (names : List RecordName) (opened : List (Opening I O)) (old new : State J) (before after : Option (List Done)) (result : Result Tally RunFault)
-      → PushesAbreast remaining contents g base window names opened old new before after result → Onward old.book new.book
-  abreast_onward names opened old new before after (Ok tally) all = moves_onward all.moves.0 opened all.done _ _ all.moves.1
-  abreast_onward names opened old new before after (Err fault) part =
-      onward_more old.book part.between.book new.book
-      (onward_more old.book part.stops.between.state.book part.between.book
-      (moves_onward part.stops.moves.0 part.stops.first part.done _ _ part.stops.moves.1)
-      (causes_onward part.stops.last part.stops.between part.rest part.between fault part.stops.causes))
-      (looks_onward part.rest part.between new part.looked)
+  breaks_onward : (limit : ℕ) (opened : List (Opening I O)) (told : List Done) (old : Scene I O J) (rest : List (Track I O)) (new : State J) (fault : RunFault)
+      → Breaks remaining contents g base window limit opened told old rest new fault → Onward old.state.book new.book
+  breaks_onward limit opened told old rest new fault (inl (s, never)) =
+      onward_more old.state.book s.between.state.book new.book
+      (moves_onward s.moves.0 s.first told old s.between s.moves.1) (causes_onward s.last s.between rest new fault s.causes)
+  breaks_onward limit opened told old rest new fault (inr u) =
+      subst (λ (s : State J). Onward old.state.book s.book) (sym u.state) (moves_onward u.moves.0 opened u.earlier old u.between u.moves.1)
 
-  pub both_onward : (users groups : List RecordName) (opened : List (Opening I O)) (old new : State J) (before after : Option (List Done)) (result : Result Tally RunFault)
-      → PushesBoth remaining contents g base window users groups opened old new before after result → Onward old.book new.book
-  both_onward users groups opened old new before after result (inl (first, last, between, then, tally, more, opened_are, all, rest, is)) =
-      onward_more old.book between.book new.book (abreast_onward users first old between before then (Ok tally) all) (abreast_onward groups last between new then after more rest)
-  both_onward users groups opened old new before after result (inr (fault, part, is)) = abreast_onward users opened old new before after (Err fault) part
+  pub abreast_onward : (limit : ℕ) (names : List RecordName) (opened : List (Opening I O)) (old new : State J) (before after : Option (List Done)) (result : Result Tally RunFault)
+      → PushesAbreast remaining contents g base window limit names opened old new before after result → Onward old.book new.book
+  abreast_onward limit names opened old new before after (Ok tally) all = moves_onward all.moves.0 opened all.done _ _ all.moves.1
+  abreast_onward limit names opened old new before after (Err fault) part =
+      onward_more old.book part.between.book new.book (breaks_onward limit opened part.done _ part.rest part.between fault part.breaks) (looks_onward part.rest part.between new part.looked)
+
+  pub both_onward : (limit : ℕ) (users groups : List RecordName) (opened : List (Opening I O)) (old new : State J) (before after : Option (List Done)) (result : Result Tally RunFault)
+      → PushesBoth remaining contents g base window limit users groups opened old new before after result → Onward old.book new.book
+  both_onward limit users groups opened old new before after result (inl (first, last, between, then, tally, more, opened_are, all, rest, is)) =
+      onward_more old.book between.book new.book (abreast_onward limit users first old between before then (Ok tally) all) (abreast_onward limit groups last between new then after more rest)
+  both_onward limit users groups opened old new before after result (inr (fault, part, is)) = abreast_onward limit users opened old new before after (Err fault) part
 
   -- users and groups, split by their count
-  pub both_of : (names all users groups : List RecordName) (count : ℕ) (opened : List (Opening I O)) (old new : State J) (before after : Option (List Done)) (result : Result Tally RunFault)
-      → all ≡ names → users ≡ take count all → groups ≡ drop count all → count ≡ prefix_len is_user names → PushesBoth remaining contents g base window users groups opened old new before after result
-      → PushesBoth remaining contents g base window (users_of names) (groups_of names) opened old new before after result
-  both_of names all users groups count opened old new before after result same front back counted b =
+  pub both_of : (limit : ℕ) (names all users groups : List RecordName) (count : ℕ) (opened : List (Opening I O)) (old new : State J) (before after : Option (List Done)) (result : Result Tally RunFault)
+      → all ≡ names → users ≡ take count all → groups ≡ drop count all → count ≡ prefix_len is_user names → PushesBoth remaining contents g base window limit users groups opened old new before after result
+      → PushesBoth remaining contents g base window limit (users_of names) (groups_of names) opened old new before after result
+  both_of limit names all users groups count opened old new before after result same front back counted b =
       let users_are : users ≡ users_of names = front ∙ ap (λ (xs : List RecordName). take count xs) same ∙ ap (λ (n : ℕ). take n names) counted in
       let groups_are : groups ≡ groups_of names = back ∙ ap (λ (xs : List RecordName). drop count xs) same ∙ ap (λ (n : ℕ). drop n names) counted in
-      subst (λ (xs : List RecordName). PushesBoth remaining contents g base window xs (groups_of names) opened old new before after result) users_are
-      (subst (λ (xs : List RecordName). PushesBoth remaining contents g base window users xs opened old new before after result) groups_are b)
+      subst (λ (xs : List RecordName). PushesBoth remaining contents g base window limit xs (groups_of names) opened old new before after result) users_are
+      (subst (λ (xs : List RecordName). PushesBoth remaining contents g base window limit users xs opened old new before after result) groups_are b)

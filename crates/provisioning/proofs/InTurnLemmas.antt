@@ -17,9 +17,10 @@ use Rattle.provisioning.specs.Exchanges.{Came, Exchange, IsExchange, IsUnmade, a
 use Rattle.provisioning.specs.Openings.{Opening}
 use Rattle.provisioning.specs.Paces.{OneStreamIsInTurn, PushesInTurn}
 use Rattle.provisioning.specs.Records.{EndsRun, IsPushed, Stands, most_exchanges}
-use Rattle.provisioning.specs.Runs.{AllDone, AreDone, Done, PartDone, PushesEach}
+use Rattle.provisioning.specs.Runs.{AllDone, AreDone, Done, IsUntold, PartDone, PushesEach, streak_of}
+use Rattle.provisioning.specs.Streaks.{IsGivenUp}
 use Rattle.provisioning.specs.Tracks.{Advances, Begins, IsLearnt, SetsOut, StandsAt, faulted, fresh}
-use Rattle.provisioning.specs.Windows.{AllMoved, AreMoves, Causes, IsBegun, IsContinued, IsMove, IsMoved, IsReported, IsWith, LooksThrough, PartMoved, Point, PushesAbreast, Scene, at_start, done_of, name_of, names_in, window_of}
+use Rattle.provisioning.specs.Windows.{AllMoved, AreMoves, Breaks, Causes, IsBegun, IsContinued, IsMove, IsMoved, IsReported, IsWith, LooksThrough, PartMoved, Point, PushesAbreast, Scene, at_start, done_of, name_of, names_in, window_of}
 use Rattle.provisioning.specs.declared.faults.RecordFault.{RecordFault}
 use Rattle.provisioning.specs.declared.faults.RunFault.{RunFault}
 use Rattle.provisioning.specs.declared.pushing.Tally.{Tally}
@@ -63,7 +64,7 @@ stands_at book a standing most (inr s) =
 
 -- ---- one record
 
-module _ {I O J : Type 0} (remaining : I → Option (List ℕ)) (contents : O → Option (List ℕ)) (g : Ghosts J) (base : List ℕ) where
+module _ {I O J : Type 0} (remaining : I → Option (List ℕ)) (contents : O → Option (List ℕ)) (g : Ghosts J) (base : List ℕ) (limit : ℕ) where
   abbrev SoFar : RecordName → (opened : List (Opening I O)) → (old new : State J) → (count : ℕ) → (last : Option RecordFault) → Type 0
   SoFar name opened old new count last = IsSoFar remaining contents g base name opened old new count last
 
@@ -268,7 +269,7 @@ module _ {I O J : Type 0} (remaining : I → Option (List ℕ)) (contents : O �
   unbegun_part : (names : List RecordName) (done : List Done) (first last : List (Opening I O)) (old : State J) (scene : Scene I O J) (rest : List (Track I O)) (mid new : State J) (fault : RunFault)
       → IsInTurn names done first old scene → (rest ≡ scene.tracks) → (mid ≡ scene.state) → length scene.tracks < 1 → IsUnmade last fault
       → (last ≡ []) ⊎ ((name : RecordName) × (later : List RecordName) × (scene.waiting ≡ name ∷ later)) → LooksThrough remaining g rest mid new
-      → PartDone remaining contents g base names (first ++ last) old new fault
+      → PartDone remaining contents g base limit names (first ++ last) old new fault
   unbegun_part names done first last old scene rest mid new fault p left same room unmade waits looked =
       let none : scene.tracks ≡ [] = is_empty scene.tracks (omega (arith, room)) in
       let here : (p.last ≡ []) × (scene.state ≡ p.between) = subst (λ (ts : List (Track I O)). AreAt ts p.last p.between scene.state) none p.at in
@@ -276,7 +277,7 @@ module _ {I O J : Type 0} (remaining : I → Option (List ℕ)) (contents : O �
       go unmade waits (still ∙ same ∙ here.1) (ap (λ xs. xs ++ last) (p.opened_are ∙ none_added p.first p.last here.0)) (ap (names_with scene.waiting) none)
     where
       go : IsUnmade last fault → (last ≡ []) ⊎ ((name : RecordName) × (later : List RecordName) × (scene.waiting ≡ name ∷ later)) → new ≡ p.between → first ++ last ≡ p.first ++ last
-          → names_in scene ≡ scene.waiting → PartDone remaining contents g base names (first ++ last) old new fault
+          → names_in scene ≡ scene.waiting → PartDone remaining contents g base limit names (first ++ last) old new fault
       go (inr (none, memory)) waits still opened_are waiting = record {
         done = done;
         rest = names_in scene;
@@ -286,7 +287,7 @@ module _ {I O J : Type 0} (remaining : I → Option (List ℕ)) (contents : O �
         names_are = p.names_are;
         opened_are = opened_are;
         are = p.are;
-        ends = inr (none, still, inr memory);
+        ends = inr (none, still, inl (inr memory));
       }
       go (inl (error, one, is)) (inl none) still opened_are waiting = absurd (cc)
       go (inl (error, one, is)) (inr (name, later, waits)) still opened_are waiting = record {
@@ -301,9 +302,31 @@ module _ {I O J : Type 0} (remaining : I → Option (List ℕ)) (contents : O �
         ends = inl (so_ends remaining contents g base name [] last p.between p.between new 0 None fault (none_so_far remaining contents g base name p.between) (omega arith) (inr (still, inl (error, one, is))));
       }
 
+  reported_part : (names : List RecordName) (done : List Done) (first last : List (Opening I O)) (old : State J) (scene : Scene I O J) (rest : List (Track I O)) (mid new : State J) (fault : RunFault) (a : Account) (standing : Standing)
+      → IsInTurn names done first old scene → IsWith (IsDone a standing) rest scene.tracks → last ≡ [] → mid ≡ scene.state → IsUntold fault ⊎ IsGivenUp limit fault → LooksThrough remaining g rest mid new
+      → PartDone remaining contents g base limit names (first ++ last) old new fault
+  reported_part names done first last old scene rest mid new fault a standing p with none same end looked =
+      let d = done_of a standing in
+      let here = the_one (IsDone a standing) rest scene.tracks p.last p.between scene.state with p.at in
+      let still : new ≡ mid = subst (λ (ts : List (Track I O)). LooksThrough remaining g ts mid new) here.1 looked in
+      record {
+        done = done ++ d ∷ [];
+        rest = scene.waiting;
+        first = p.first ++ p.last;
+        last = last;
+        between = scene.state;
+        names_are = p.names_are
+            ∙ ap (λ xs. told_names done ++ xs) (ap (names_with scene.waiting) here.0)
+            ∙ sym (append_assoc (told_names done) (a.name ∷ []) scene.waiting)
+            ∙ ap (λ xs. xs ++ scene.waiting) (sym (map_push (λ (e : Done). e.0) done d));
+        opened_are = ap (λ xs. xs ++ last) p.opened_are;
+        are = done_more remaining contents g base done d p.first p.last old p.between scene.state p.are here.2;
+        ends = inr (none, still ∙ same, end);
+      }
+
   caused_part : (names : List RecordName) (done : List Done) (first last : List (Opening I O)) (old : State J) (scene : Scene I O J) (rest : List (Track I O)) (mid new : State J) (fault : RunFault)
       → IsInTurn names done first old scene → Causes remaining contents g base 1 last scene rest mid fault → LooksThrough remaining g rest mid new
-      → PartDone remaining contents g base names (first ++ last) old new fault
+      → PartDone remaining contents g base limit names (first ++ last) old new fault
   caused_part names done first last old scene rest mid new fault p (inl (left, same, u)) looked =
       unbegun_part names done first last old scene rest mid new fault p left same u.room u.unmade u.waits looked
   caused_part names done first last old scene rest mid new fault p (inr (inl (track, with, advances))) looked =
@@ -321,28 +344,12 @@ module _ {I O J : Type 0} (remaining : I → Option (List ℕ)) (contents : O �
         ends = inl (subst (λ (s : State J). EndsRun remaining contents g base (name_of track) (p.last ++ last) p.between s fault) (sym still) (stopped_so track p.last last p.between scene.state mid fault here.2 advances));
       }
   caused_part names done first last old scene rest mid new fault p (inr (inr (a, standing, with, none, same, untold))) looked =
-      let d = done_of a standing in
-      let here = the_one (IsDone a standing) rest scene.tracks p.last p.between scene.state with p.at in
-      let still : new ≡ mid = subst (λ (ts : List (Track I O)). LooksThrough remaining g ts mid new) here.1 looked in
-      record {
-        done = done ++ d ∷ [];
-        rest = scene.waiting;
-        first = p.first ++ p.last;
-        last = last;
-        between = scene.state;
-        names_are = p.names_are
-            ∙ ap (λ xs. told_names done ++ xs) (ap (names_with scene.waiting) here.0)
-            ∙ sym (append_assoc (told_names done) (a.name ∷ []) scene.waiting)
-            ∙ ap (λ xs. xs ++ scene.waiting) (sym (map_push (λ (e : Done). e.0) done d));
-        opened_are = ap (λ xs. xs ++ last) p.opened_are;
-        are = done_more remaining contents g base done d p.first p.last old p.between scene.state p.are here.2;
-        ends = inr (none, still ∙ same, untold);
-      }
+      reported_part names done first last old scene rest mid new fault a standing p with none same (inl untold) looked
 
   -- ---- a run
 
   all_turn : (names : List RecordName) (opened : List (Opening I O)) (old new : State J) (before after : Option (List Done)) (tally : Tally)
-      → AllMoved remaining contents g base 1 names opened old new before after tally → AllDone remaining contents g base names opened old new before after tally
+      → AllMoved remaining contents g base 1 limit names opened old new before after tally → AllDone remaining contents g base names opened old new before after tally
   all_turn names opened old new before after tally all =
       let p = moves_turn all.moves.0 names [] all.done [] opened old (at_start names old) (at_start [] new) (started names old) all.moves.1 in
       record {
@@ -355,38 +362,44 @@ module _ {I O J : Type 0} (remaining : I → Option (List ℕ)) (contents : O �
       }
 
   part_turn : (names : List RecordName) (opened : List (Opening I O)) (old new : State J) (fault : RunFault)
-      → PartMoved remaining contents g base 1 names opened old new fault → PartDone remaining contents g base names opened old new fault
-  part_turn names opened old new fault part =
-      let s = part.stops in
-      let p = moves_turn s.moves.0 names [] part.done [] s.first old (at_start names old) s.between (started names old) s.moves.1 in
-      subst (λ (o : List (Opening I O)). PartDone remaining contents g base names o old new fault) (sym s.opened_are)
-      (caused_part names part.done s.first s.last old s.between part.rest part.between new fault p s.causes part.looked)
+      → PartMoved remaining contents g base 1 limit names opened old new fault → PartDone remaining contents g base limit names opened old new fault
+  part_turn names opened old new fault part = broken part.breaks
+    where
+      broken : Breaks remaining contents g base 1 limit opened part.done (at_start names old) part.rest part.between fault → PartDone remaining contents g base limit names opened old new fault
+      broken (inl (s, never)) =
+          let p = moves_turn s.moves.0 names [] part.done [] s.first old (at_start names old) s.between (started names old) s.moves.1 in
+          subst (λ (o : List (Opening I O)). PartDone remaining contents g base limit names o old new fault) (sym s.opened_are)
+          (caused_part names part.done s.first s.last old s.between part.rest part.between new fault p s.causes part.looked)
+      broken (inr u) =
+          let p = moves_turn u.moves.0 names [] u.earlier [] opened old (at_start names old) u.between (started names old) u.moves.1 in
+          subst (λ (o : List (Opening I O)). PartDone remaining contents g base limit names o old new fault) (append-nil opened)
+          (reported_part names u.earlier opened [] old u.between part.rest part.between new fault u.account u.standing p u.tracks refl u.state (inr (streak_of part.done, u.gives_up)) part.looked)
 
   each_turn : (names : List RecordName) (opened : List (Opening I O)) (old new : State J) (before after : Option (List Done)) (result : Result Tally RunFault)
-      → PushesAbreast remaining contents g base 1 names opened old new before after result → PushesEach remaining contents g base names opened old new before after result
+      → PushesAbreast remaining contents g base 1 limit names opened old new before after result → PushesEach remaining contents g base limit names opened old new before after result
   each_turn names opened old new before after (Ok tally) all = all_turn names opened old new before after tally all
   each_turn names opened old new before after (Err fault) part = part_turn names opened old new fault part
 
   abbrev Each : List RecordName → (opened : List (Opening I O)) → (old new : State J) → (before after : Option (List Done)) → Result Tally RunFault → Type 0
-  Each names opened old new before after result = PushesEach remaining contents g base names opened old new before after result
+  Each names opened old new before after result = PushesEach remaining contents g base limit names opened old new before after result
 
   joined_turn : (users groups : List RecordName) (first last : List (Opening I O)) (old between new : State J) (before then after : Option (List Done)) (tally : Tally) (more : Result Tally RunFault)
       → AllDone remaining contents g base users first old between before then tally → Each groups last between new then after more → Each (users ++ groups) (first ++ last) old new before after (joined tally more)
   joined_turn users groups first last old between new before then after tally (Ok more) all rest = all_then remaining contents g base users groups first last old between new before then after tally more all rest
-  joined_turn users groups first last old between new before then after tally (Err fault) all rest = part_then remaining contents g base users groups first last old between new before then tally fault all rest
+  joined_turn users groups first last old between new before then after tally (Err fault) all rest = part_then remaining contents g base limit users groups first last old between new before then tally fault all rest
 
   both_turn : (users groups : List RecordName) (opened : List (Opening I O)) (old new : State J) (before after : Option (List Done)) (result : Result Tally RunFault)
-      → PushesBoth remaining contents g base 1 users groups opened old new before after result → Each (users ++ groups) opened old new before after result
+      → PushesBoth remaining contents g base 1 limit users groups opened old new before after result → Each (users ++ groups) opened old new before after result
   both_turn users groups opened old new before after result (inl (first, last, between, then, tally, more, opened_are, all, rest, is)) =
       subst (λ (o : List (Opening I O)). Each (users ++ groups) o old new before after result) (sym opened_are)
       (subst (λ (r : Result Tally RunFault). Each (users ++ groups) (first ++ last) old new before after r) (sym is)
       (joined_turn users groups first last old between new before then after tally more (all_turn users first old between before then tally all) (each_turn groups last between new then after more rest)))
   both_turn users groups opened old new before after result (inr (fault, part, is)) =
       subst (λ (r : Result Tally RunFault). Each (users ++ groups) opened old new before after r) (sym is)
-      (part_before remaining contents g base users groups opened old new fault (part_turn users opened old new fault part))
+      (part_before remaining contents g base limit users groups opened old new fault (part_turn users opened old new fault part))
 
   in_turn : (leavers_first : Bool) (opened : List (Opening I O)) (old new : State J) (before after : Option (List Done)) (result : Result Tally RunFault)
-      → PushesAllAbreast remaining contents g base 1 leavers_first opened old new before after result → PushesInTurn remaining contents g base leavers_first opened old new before after result
+      → PushesAllAbreast remaining contents g base 1 limit leavers_first opened old new before after result → PushesInTurn remaining contents g base leavers_first limit opened old new before after result
   in_turn leavers_first opened old new before after result (inl (names, order, b)) = inl (
     names,
     order,
@@ -403,5 +416,5 @@ one_window (suc (suc n)) less = absurd (omega (arith, less))
 
 pub one_stream : {I O J : Type 0} (remaining : I → Option (List ℕ)) (contents : O → Option (List ℕ)) (g : Ghosts J) → OneStreamIsInTurn remaining contents g
 one_stream remaining contents g base pace opened old new before after result less pushes =
-    in_turn remaining contents g base pace.leavers_first opened old new before after result
-    (subst (λ (w : ℕ). PushesAllAbreast remaining contents g base w pace.leavers_first opened old new before after result) (one_window pace.streams less) pushes)
+    in_turn remaining contents g base pace.give_up_after pace.leavers_first opened old new before after result
+    (subst (λ (w : ℕ). PushesAllAbreast remaining contents g base w pace.give_up_after pace.leavers_first opened old new before after result) (one_window pace.streams less) pushes)

@@ -1,5 +1,5 @@
 -- Records one after another.
-use Rattle.std.proofs.Common.{◌≡◌, ◌+◌, ℕ, Bool, true, false, ◌&&◌, min, List, [], ◌∷◌, ◌++◌, map, Option, inl, inr, refl, ap, sym, ◌∙◌, subst, append_assoc, append-nil, arith}
+use Rattle.std.proofs.Common.{◌≡◌, ◌+◌, ℕ, Bool, true, false, ◌&&◌, min, List, [], ◌∷◌, ◌++◌, map, Option, Ok, inl, inr, refl, ap, sym, ◌∙◌, subst, append_assoc, append-nil, arith}
 use Rattle.std.proofs.lemmas.List.{map-append}
 use Rattle.std.proofs.lemmas.List.Folds.{list_all-append}
 use Rattle.std.proofs.lemmas.List.Sums.{sum_by-append, sum_by_push}
@@ -10,10 +10,12 @@ use Rattle.connector_core.specs.State.{State}
 use Rattle.provisioning.proofs.ListLemmas.{adds_more}
 use Rattle.provisioning.specs.Abreast.{both}
 use Rattle.provisioning.specs.Openings.{Opening}
-use Rattle.provisioning.specs.Records.{IsPushed}
-use Rattle.provisioning.specs.Runs.{AllDone, AreDone, Done, EndsAt, PartDone, greatest_count, is_confirmed, tally_of, tally_with}
+use Rattle.provisioning.specs.Records.{IsPushed, greatest_count}
+use Rattle.provisioning.specs.Runs.{AllDone, AreDone, Done, EndsAt, GoesOnAfterEach, PartDone, is_confirmed, streak_after, tally_of, tally_with}
+use Rattle.provisioning.specs.Streaks.{go_on_after, streak_with}
 use Rattle.provisioning.specs.declared.faults.RunFault.{RunFault}
 use Rattle.provisioning.specs.declared.pushing.Tally.{Tally}
+use Rattle.provisioning.specs.declared.streaks.Streak.{Streak}
 
 -- ---- counting
 
@@ -49,6 +51,17 @@ tally_next done d =
     ∙ ap (tally_at (min greatest_count (min greatest_count (sum_by exchanges_of done) + d.1.exchanges)))
     (list_all-append settles done (d ∷ []) ∙ ap (λ b. list_all settles done && b) (and_true (settles d)))
 
+-- ---- in a row
+
+pub streak_next : (streak : Option Streak) (done : List Done) (d : Done) → streak_after streak (done ++ d ∷ []) ≡ streak_with (streak_after streak done) d.1
+streak_next streak [] d = refl
+streak_next streak (e ∷ done) d = streak_next (streak_with streak e.1) done d
+
+pub goes_next : (limit : ℕ) (streak : Option Streak) (done : List Done) (d : Done) → GoesOnAfterEach limit streak done → go_on_after limit (streak_with (streak_after streak done) d.1) ≡ Ok tt
+    → GoesOnAfterEach limit streak (done ++ d ∷ [])
+goes_next limit streak [] d each ok = (ok, tt)
+goes_next limit streak (e ∷ done) d each ok = (each.0, goes_next limit (streak_with streak e.1) done d each.1 ok)
+
 -- ---- the records
 
 module _ {I O J : Type 0} (remaining : I → Option (List ℕ)) (contents : O → Option (List ℕ)) (g : Ghosts J) (base : List ℕ) where
@@ -78,10 +91,10 @@ module _ {I O J : Type 0} (remaining : I → Option (List ℕ)) (contents : O �
     tally_is = ap (λ (t : Tally). both t next) a.tally_is ∙ ap (both (tally_of a.done)) b.tally_is ∙ sym (tally_more a.done b.done);
   }
 
-  pub part_then : (names more : List RecordName) (first then : List (Opening I O)) (old between new : State J) (before mid : Option (List Done)) (tally : Tally) (fault : RunFault)
-      → AllDone remaining contents g base names first old between before mid tally → PartDone remaining contents g base more then between new fault
-      → PartDone remaining contents g base (names ++ more) (first ++ then) old new fault
-  part_then names more first then old between new before mid tally fault a b = record {
+  pub part_then : (limit : ℕ) (names more : List RecordName) (first then : List (Opening I O)) (old between new : State J) (before mid : Option (List Done)) (tally : Tally) (fault : RunFault)
+      → AllDone remaining contents g base names first old between before mid tally → PartDone remaining contents g base limit more then between new fault
+      → PartDone remaining contents g base limit (names ++ more) (first ++ then) old new fault
+  part_then limit names more first then old between new before mid tally fault a b = record {
     done = a.done ++ b.done;
     rest = b.rest;
     first = first ++ b.first;
@@ -100,9 +113,9 @@ module _ {I O J : Type 0} (remaining : I → Option (List ℕ)) (contents : O �
   ends_before [] more last between new fault ends = absurd ends
   ends_before (name ∷ rest) more last between new fault ends = ends
 
-  pub part_before : (names more : List RecordName) (opened : List (Opening I O)) (old new : State J) (fault : RunFault)
-      → PartDone remaining contents g base names opened old new fault → PartDone remaining contents g base (names ++ more) opened old new fault
-  part_before names more opened old new fault a = record {
+  pub part_before : (limit : ℕ) (names more : List RecordName) (opened : List (Opening I O)) (old new : State J) (fault : RunFault)
+      → PartDone remaining contents g base limit names opened old new fault → PartDone remaining contents g base limit (names ++ more) opened old new fault
+  part_before limit names more opened old new fault a = record {
     done = a.done;
     rest = a.rest ++ more;
     first = a.first;

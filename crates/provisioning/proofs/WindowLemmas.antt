@@ -1,5 +1,5 @@
 -- The steps of a run of many records.
-use Rattle.std.proofs.Common.{◌≡◌, ◌+◌, ◌<◌, ◌-◌, ℕ, true, List, [], ◌∷◌, ◌++◌, map, length, drop, Option, Some, None, Result, Ok, Err, inl, inr, refl, ap, sym, ◌∙◌, subst, append_assoc, append-nil, arith}
+use Rattle.std.proofs.Common.{◌≡◌, ◌⊎◌, ◌+◌, ◌<◌, ◌-◌, ℕ, true, List, [], ◌∷◌, ◌++◌, map, length, drop, Option, Some, None, Result, Ok, Err, inl, inr, refl, ap, sym, ◌∙◌, subst, append_assoc, append-nil, arith}
 use Rattle.std.proofs.lemmas.List.{map_push}
 use Rattle.scim_key.specs.declared.records.RecordName.{RecordName}
 use Rattle.journal_core.specs.declared.journals.Journal.{Ghosts}
@@ -8,16 +8,18 @@ use Rattle.connector_core.specs.Maps.{book_of}
 use Rattle.connector_core.specs.State.{State}
 use Rattle.provisioning.proofs.ListLemmas.{adds_more, adds_none}
 use Rattle.provisioning.proofs.MoveLemmas.{looks_more, moves_beside, moves_more, no_moves, one_move, stops_beside, stops_here, stops_more, with_back, with_front}
-use Rattle.provisioning.proofs.RunLemmas.{tally_next}
+use Rattle.provisioning.proofs.RunLemmas.{goes_next, streak_next, tally_next}
 use Rattle.provisioning.specs.Openings.{Opening}
 use Rattle.provisioning.specs.Records.{most_exchanges}
-use Rattle.provisioning.specs.Runs.{Done, IsUntold, Tells, tally_of, tally_with}
+use Rattle.provisioning.specs.Runs.{Done, IsUntold, NeverGivesUp, Tells, streak_of, tally_of, tally_with}
+use Rattle.provisioning.specs.Streaks.{go_on_after, streak_with}
 use Rattle.provisioning.specs.Tracks.{Advances, Begins, Closes, fresh}
-use Rattle.provisioning.specs.Windows.{AllMoved, BeginsNext, Goes, IsFinished, IsThrough, IsWith, Keeps, Leaves, LooksThrough, Moves, PartMoved, PushesAbreast, PushesThrough, Scene, Stops, TakesFirst, at_start, done_of, name_of, names_in, scene_of, with_first}
+use Rattle.provisioning.specs.Windows.{AllMoved, BeginsNext, GivesUp, Goes, IsFinished, IsThrough, IsWith, Keeps, Leaves, LooksThrough, Moves, PartMoved, PushesAbreast, PushesThrough, Scene, Stops, TakesFirst, at_start, done_of, name_of, names_in, scene_of, with_first}
 use Rattle.provisioning.specs.declared.faults.RunFault.{RunFault}
 use Rattle.provisioning.specs.declared.faults.RunFault.TheVariants.{Memory}
 use Rattle.provisioning.specs.declared.pushing.Tally.{Tally}
 use Rattle.provisioning.specs.declared.records.Standing.{Standing}
+use Rattle.provisioning.specs.declared.streaks.Streak.{Streak}
 use Rattle.provisioning.specs.declared.tracks.Account.{Account}
 use Rattle.provisioning.specs.declared.tracks.Flight.{Flight}
 use Rattle.provisioning.specs.declared.tracks.Track.{Track}
@@ -330,71 +332,108 @@ module _ {I O J : Type 0} (remaining : I → Option (List ℕ)) (contents : O �
 
   -- ---- one record after another
 
-  pub record IsThroughSo (opened : List (Opening I O)) (old here : Scene I O J) (before now : Option (List Done)) (tally : Tally) : Type 0 where
+  pub record IsThroughSo (limit : ℕ) (opened : List (Opening I O)) (old here : Scene I O J) (before now : Option (List Done)) (tally : Tally) (streak : Option Streak) : Type 0 where
     pub done : List Done
     pub names : map (λ d. d.0) done ++ names_in here ≡ names_in old
     pub moves : Moves remaining contents g base window opened done old here
     pub tells : Tells before now done
     pub tally_is : tally ≡ tally_of done
+    pub streak_is : streak ≡ streak_of done
+    pub never : NeverGivesUp limit done
 
-  pub through_none : (old : Scene I O J) (before : Option (List Done)) → IsThroughSo [] old old before before (record { exchanges = 0; is_settled = true })
-  through_none old before = record { done = []; names = refl; moves = no_moves remaining contents g base window old; tells = adds_none before; tally_is = refl }
+  pub through_none : (limit : ℕ) (old : Scene I O J) (before : Option (List Done)) → IsThroughSo limit [] old old before before (record { exchanges = 0; is_settled = true }) None
+  through_none limit old before = record { done = []; names = refl; moves = no_moves remaining contents g base window old; tells = adds_none before; tally_is = refl; streak_is = refl; never = tt }
 
-  pub through_stopped : (o1 o2 : List (Opening I O)) (old here there : Scene I O J) (before now : Option (List Done)) (tally : Tally) (fault : RunFault)
-      → IsThroughSo o1 old here before now tally → TakesFirst remaining contents g base window o2 here there (Err fault)
-      → (told : List Done) × Leaves remaining contents g base window (o1 ++ o2) told old there fault
-  through_stopped o1 o2 old here there before now tally fault so stops =
-      (so.done, ([], there.state, stops_on o1 o2 so.done old here there.tracks there.state fault so.moves stops, refl))
+  -- a fault ended the run after some records
+  abbrev pub IsBroken : (limit : ℕ) → (opened : List (Opening I O)) → (old new : Scene I O J) → RunFault → Type 0
+  IsBroken limit opened old new fault = (told : List Done)
+      × ((Leaves remaining contents g base window opened told old new fault × NeverGivesUp limit told) ⊎ GivesUp remaining contents g base window limit opened told old new.tracks new.state fault)
 
-  pub through_left : (o1 o2 o3 : List (Opening I O)) (old here there after : Scene I O J) (first : Track I O) (before now : Option (List Done)) (tally : Tally) (fault : RunFault)
-      → IsThroughSo o1 old here before now tally → TakesFirst remaining contents g base window o2 here there (Ok (Some first)) → Leaves remaining contents g base window o3 [] (with_first first there) after fault
-      → (told : List Done) × Leaves remaining contents g base window ((o1 ++ o2) ++ o3) told old after fault
-  through_left o1 o2 o3 old here there after first before now tally fault so takes (front, between, stops, looked) = (
+  pub through_stopped : (limit : ℕ) (o1 o2 : List (Opening I O)) (old here there : Scene I O J) (before now : Option (List Done)) (tally : Tally) (streak : Option Streak) (fault : RunFault)
+      → IsThroughSo limit o1 old here before now tally streak → TakesFirst remaining contents g base window o2 here there (Err fault)
+      → IsBroken limit (o1 ++ o2) old there fault
+  through_stopped limit o1 o2 old here there before now tally streak fault so stops =
+      (so.done, inl (([], there.state, stops_on o1 o2 so.done old here there.tracks there.state fault so.moves stops, refl), so.never))
+
+  pub through_left : (limit : ℕ) (o1 o2 o3 : List (Opening I O)) (old here there after : Scene I O J) (first : Track I O) (before now : Option (List Done)) (tally : Tally) (streak : Option Streak) (fault : RunFault)
+      → IsThroughSo limit o1 old here before now tally streak → TakesFirst remaining contents g base window o2 here there (Ok (Some first)) → Leaves remaining contents g base window o3 [] (with_first first there) after fault
+      → IsBroken limit ((o1 ++ o2) ++ o3) old after fault
+  through_left limit o1 o2 o3 old here there after first before now tally streak fault so takes (front, between, stops, looked) = (
     so.done,
-    (
-      front,
-      between,
-      stops_on (o1 ++ o2) o3 so.done old (with_first first there) (front ++ after.tracks) between fault
-          (moves_on o1 o2 so.done old here (with_first first there) so.moves takes.0) stops,
-      looked,
+    inl (
+      (
+        front,
+        between,
+        stops_on (o1 ++ o2) o3 so.done old (with_first first there) (front ++ after.tracks) between fault
+            (moves_on o1 o2 so.done old here (with_first first there) so.moves takes.0) stops,
+        looked,
+      ),
+      so.never,
     ),
   )
 
-  moves_to_done : (o1 o2 o3 : List (Opening I O)) (old here there after : Scene I O J) (first : Track I O) (before now : Option (List Done)) (tally : Tally) (d : Done)
-      → (so : IsThroughSo o1 old here before now tally) → TakesFirst remaining contents g base window o2 here there (Ok (Some first)) → (f : IsFinished remaining contents g base window o3 first there after d)
+  moves_to_done : (limit : ℕ) (o1 o2 o3 : List (Opening I O)) (old here there after : Scene I O J) (first : Track I O) (before now : Option (List Done)) (tally : Tally) (streak : Option Streak) (d : Done)
+      → (so : IsThroughSo limit o1 old here before now tally streak) → TakesFirst remaining contents g base window o2 here there (Ok (Some first)) → (f : IsFinished remaining contents g base window o3 first there after d)
       → Moves remaining contents g base window ((o1 ++ o2) ++ o3) so.done old (with_first (IsDone f.account f.standing) after)
-  moves_to_done o1 o2 o3 old here there after first before now tally d so takes f =
+  moves_to_done limit o1 o2 o3 old here there after first before now tally streak d so takes f =
       moves_on (o1 ++ o2) o3 so.done old (with_first first there) (with_first (IsDone f.account f.standing) after)
       (moves_on o1 o2 so.done old here (with_first first there) so.moves takes.0) f.moves
 
-  pub through_untold : (o1 o2 o3 : List (Opening I O)) (old here there after : Scene I O J) (first : Track I O) (before now : Option (List Done)) (tally : Tally) (d : Done) (fault : RunFault)
-      → IsThroughSo o1 old here before now tally → TakesFirst remaining contents g base window o2 here there (Ok (Some first)) → IsFinished remaining contents g base window o3 first there after d → IsUntold fault
-      → (told : List Done) × Leaves remaining contents g base window (((o1 ++ o2) ++ o3) ++ []) told old after fault
-  through_untold o1 o2 o3 old here there after first before now tally d fault so takes f untold = (
+  pub through_untold : (limit : ℕ) (o1 o2 o3 : List (Opening I O)) (old here there after : Scene I O J) (first : Track I O) (before now : Option (List Done)) (tally : Tally) (streak : Option Streak) (d : Done) (fault : RunFault)
+      → IsThroughSo limit o1 old here before now tally streak → TakesFirst remaining contents g base window o2 here there (Ok (Some first)) → IsFinished remaining contents g base window o3 first there after d → IsUntold fault
+      → IsBroken limit (((o1 ++ o2) ++ o3) ++ []) old after fault
+  through_untold limit o1 o2 o3 old here there after first before now tally streak d fault so takes f untold = (
     so.done,
-    (
-      [],
-      after.state,
-      stops_on ((o1 ++ o2) ++ o3) [] so.done old (with_first (IsDone f.account f.standing) after) after.tracks after.state fault
-          (moves_to_done o1 o2 o3 old here there after first before now tally d so takes f)
-          (stops_here remaining contents g base window [] (with_first (IsDone f.account f.standing) after) after.tracks after.state fault
-          (inr (inr (f.account, f.standing, with_front (IsDone f.account f.standing) after.tracks, refl, refl, untold)))),
-      refl,
+    inl (
+      (
+        [],
+        after.state,
+        stops_on ((o1 ++ o2) ++ o3) [] so.done old (with_first (IsDone f.account f.standing) after) after.tracks after.state fault
+            (moves_to_done limit o1 o2 o3 old here there after first before now tally streak d so takes f)
+            (stops_here remaining contents g base window [] (with_first (IsDone f.account f.standing) after) after.tracks after.state fault
+            (inr (inr (f.account, f.standing, with_front (IsDone f.account f.standing) after.tracks, refl, refl, untold)))),
+        refl,
+      ),
+      so.never,
     ),
   )
 
-  pub through_next : (o1 o2 o3 : List (Opening I O)) (old here there after : Scene I O J) (first : Track I O) (before now then : Option (List Done)) (tally next : Tally) (d : Done)
-      → IsThroughSo o1 old here before now tally → TakesFirst remaining contents g base window o2 here there (Ok (Some first)) → IsFinished remaining contents g base window o3 first there after d
-      → Tells now then (d ∷ []) → next ≡ tally_with tally d.1
-      → IsThroughSo (((o1 ++ o2) ++ o3) ++ []) old after before then next
-  through_next o1 o2 o3 old here there after first before now then tally next d so takes f told counted = record {
+  -- the streak with one record more
+  next_streak : (streak next : Option Streak) (done : List Done) (d : Done) → streak ≡ streak_of done → next ≡ streak_with streak d.1 → next ≡ streak_of (done ++ d ∷ [])
+  next_streak streak next done d is longer = longer ∙ ap (λ (s : Option Streak). streak_with s d.1) is ∙ sym (streak_next None done d)
+
+  pub through_given_up : (limit : ℕ) (o1 o2 o3 : List (Opening I O)) (old here there after : Scene I O J) (first : Track I O) (before now : Option (List Done)) (tally : Tally) (streak next : Option Streak) (d : Done) (fault : RunFault)
+      → IsThroughSo limit o1 old here before now tally streak → TakesFirst remaining contents g base window o2 here there (Ok (Some first)) → IsFinished remaining contents g base window o3 first there after d
+      → next ≡ streak_with streak d.1 → go_on_after limit next ≡ Err fault
+      → IsBroken limit ((o1 ++ o2) ++ o3) old after fault
+  through_given_up limit o1 o2 o3 old here there after first before now tally streak next d fault so takes f longer ends = (
+    so.done ++ d ∷ [],
+    inr (record {
+      earlier = so.done;
+      account = f.account;
+      standing = f.standing;
+      between = with_first (IsDone f.account f.standing) after;
+      moves = moves_to_done limit o1 o2 o3 old here there after first before now tally streak d so takes f;
+      tracks = with_front (IsDone f.account f.standing) after.tracks;
+      told_are = ap (λ (e : Done). so.done ++ e ∷ []) f.done_is;
+      state = refl;
+      never = so.never;
+      gives_up = ap (go_on_after limit) (sym (next_streak streak next so.done d so.streak_is longer)) ∙ ends;
+    }),
+  )
+
+  pub through_next : (limit : ℕ) (o1 o2 o3 : List (Opening I O)) (old here there after : Scene I O J) (first : Track I O) (before now then : Option (List Done)) (tally next : Tally) (streak longer : Option Streak) (d : Done)
+      → IsThroughSo limit o1 old here before now tally streak → TakesFirst remaining contents g base window o2 here there (Ok (Some first)) → IsFinished remaining contents g base window o3 first there after d
+      → Tells now then (d ∷ []) → next ≡ tally_with tally d.1 → longer ≡ streak_with streak d.1 → go_on_after limit longer ≡ Ok tt
+      → IsThroughSo limit (((o1 ++ o2) ++ o3) ++ []) old after before then next longer
+  through_next limit o1 o2 o3 old here there after first before now then tally next streak longer d so takes f told counted met goes = record {
     done = so.done ++ d ∷ [];
     names = ap (λ xs. xs ++ names_in after) (map_push (λ (e : Done). e.0) so.done d) ∙ append_assoc (map (λ (e : Done). e.0) so.done) (d.0 ∷ []) (names_in after)
         ∙ ap (λ (n : RecordName). map (λ (e : Done). e.0) so.done ++ n ∷ names_in after) (ap (λ (e : Done). e.0) f.done_is ∙ f.name_is)
         ∙ ap (λ xs. map (λ (e : Done). e.0) so.done ++ name_of first ∷ xs) f.names
         ∙ ap (λ xs. map (λ (e : Done). e.0) so.done ++ xs) takes.1 ∙ so.names;
     moves = moves_more remaining contents g base window ((o1 ++ o2) ++ o3) [] so.done (d ∷ []) old (with_first (IsDone f.account f.standing) after) after
-        (moves_to_done o1 o2 o3 old here there after first before now tally d so takes f)
+        (moves_to_done limit o1 o2 o3 old here there after first before now tally streak d so takes f)
         (one_move remaining contents g base window [] (d ∷ []) (with_first (IsDone f.account f.standing) after) after (inr (inr (inl (record {
           account = f.account;
           standing = f.standing;
@@ -406,11 +445,13 @@ module _ {I O J : Type 0} (remaining : I → Option (List ℕ)) (contents : O �
         })))));
     tells = adds_more before now then so.done (d ∷ []) so.tells told;
     tally_is = counted ∙ ap (λ (t : Tally). tally_with t d.1) so.tally_is ∙ sym (tally_next so.done d);
+    streak_is = next_streak streak longer so.done d so.streak_is met;
+    never = goes_next limit None so.done d so.never (ap (go_on_after limit) (ap (λ (s : Option Streak). streak_with s d.1) (sym so.streak_is) ∙ sym met) ∙ goes);
   }
 
-  through_end : (o1 o2 : List (Opening I O)) (old here there : Scene I O J) (before now : Option (List Done)) (tally : Tally)
-      → IsThroughSo o1 old here before now tally → TakesFirst remaining contents g base window o2 here there (Ok None) → IsThrough remaining contents g base window (o1 ++ o2) old there before now tally
-  through_end o1 o2 old here there before now tally so (none, same, names, tracks, waiting) = record {
+  through_end : (limit : ℕ) (o1 o2 : List (Opening I O)) (old here there : Scene I O J) (before now : Option (List Done)) (tally : Tally) (streak : Option Streak)
+      → IsThroughSo limit o1 old here before now tally streak → TakesFirst remaining contents g base window o2 here there (Ok None) → IsThrough remaining contents g base window limit (o1 ++ o2) old there before now tally
+  through_end limit o1 o2 old here there before now tally streak so (none, same, names, tracks, waiting) = record {
     done = so.done;
     names_are = sym (append-nil (map (λ (e : Done). e.0) so.done)) ∙ ap (λ xs. map (λ (e : Done). e.0) so.done ++ xs) (sym names) ∙ so.names;
     moves = subst (λ (s : Scene I O J). Moves remaining contents g base window (o1 ++ o2) so.done old s) (sym same)
@@ -418,12 +459,13 @@ module _ {I O J : Type 0} (remaining : I → Option (List ℕ)) (contents : O �
     none = (tracks, waiting);
     tells = so.tells;
     tally_is = so.tally_is;
+    never = so.never;
   }
 
-  pub through_all : (o1 o2 : List (Opening I O)) (old here there : Scene I O J) (before now : Option (List Done)) (tally : Tally) (o : Option (Track I O))
-      → o ≡ None → IsThroughSo o1 old here before now tally → TakesFirst remaining contents g base window o2 here there (Ok o) → IsThrough remaining contents g base window (o1 ++ o2) old there before now tally
-  through_all o1 o2 old here there before now tally o none so takes =
-      through_end o1 o2 old here there before now tally so (subst (λ (x : Option (Track I O)). TakesFirst remaining contents g base window o2 here there (Ok x)) none takes)
+  pub through_all : (limit : ℕ) (o1 o2 : List (Opening I O)) (old here there : Scene I O J) (before now : Option (List Done)) (tally : Tally) (streak : Option Streak) (o : Option (Track I O))
+      → o ≡ None → IsThroughSo limit o1 old here before now tally streak → TakesFirst remaining contents g base window o2 here there (Ok o) → IsThrough remaining contents g base window limit (o1 ++ o2) old there before now tally
+  through_all limit o1 o2 old here there before now tally streak o none so takes =
+      through_end limit o1 o2 old here there before now tally streak so (subst (λ (x : Option (Track I O)). TakesFirst remaining contents g base window o2 here there (Ok x)) none takes)
 
   pub takes_this : (o2 : List (Opening I O)) (here there : Scene I O J) (o : Option (Track I O)) (first : Track I O) → o ≡ Some first → TakesFirst remaining contents g base window o2 here there (Ok o) → TakesFirst remaining contents g base window o2 here there (Ok (Some first))
   takes_this o2 here there o first is takes = subst (λ (x : Option (Track I O)). TakesFirst remaining contents g base window o2 here there (Ok x)) is takes
@@ -437,10 +479,10 @@ module _ {I O J : Type 0} (remaining : I → Option (List ℕ)) (contents : O �
 
   -- ---- a whole run
 
-  pub abreast_all : (names : List RecordName) (opened : List (Opening I O)) (old mid new : State J) (there : Window I O) (before after : Option (List Done)) (tally : Tally) (ts : List (Track I O))
-      → ts ≡ [] → IsThrough remaining contents g base window opened (scene names ts old) (scene_of there mid) before after tally → LooksThrough remaining g there.tracks.items mid new
-      → AllMoved remaining contents g base window names opened old new before after tally
-  abreast_all names opened old mid new there before after tally ts none t looked =
+  pub abreast_all : (limit : ℕ) (names : List RecordName) (opened : List (Opening I O)) (old mid new : State J) (there : Window I O) (before after : Option (List Done)) (tally : Tally) (ts : List (Track I O))
+      → ts ≡ [] → IsThrough remaining contents g base window limit opened (scene names ts old) (scene_of there mid) before after tally → LooksThrough remaining g there.tracks.items mid new
+      → AllMoved remaining contents g base window limit names opened old new before after tally
+  abreast_all limit names opened old mid new there before after tally ts none t looked =
       let same : new ≡ mid = subst (λ (xs : List (Track I O)). LooksThrough remaining g xs mid new) t.none.0 looked in
       record {
         done = t.done;
@@ -451,31 +493,39 @@ module _ {I O J : Type 0} (remaining : I → Option (List ℕ)) (contents : O �
             (subst (λ (w : List RecordName). Moves remaining contents g base window opened t.done (scene names ts old) (scene w there.tracks.items mid)) t.none.1 t.moves)));
         tells = t.tells;
         tally_is = t.tally_is;
+        never = t.never;
       }
 
-  pub abreast_part : (names : List RecordName) (opened : List (Opening I O)) (old mid new : State J) (there : Window I O) (fault : RunFault) (ts : List (Track I O))
-      → ts ≡ [] → (told : List Done) × Leaves remaining contents g base window opened told (scene names ts old) (scene_of there mid) fault → LooksThrough remaining g there.tracks.items mid new
-      → PartMoved remaining contents g base window names opened old new fault
-  abreast_part names opened old mid new there fault ts none (told, left) looked = record {
+  pub abreast_part : (limit : ℕ) (names : List RecordName) (opened : List (Opening I O)) (old mid new : State J) (there : Window I O) (fault : RunFault) (ts : List (Track I O))
+      → ts ≡ [] → IsBroken limit opened (scene names ts old) (scene_of there mid) fault → LooksThrough remaining g there.tracks.items mid new
+      → PartMoved remaining contents g base window limit names opened old new fault
+  abreast_part limit names opened old mid new there fault ts none (told, inl (left, never)) looked = record {
     done = told;
     rest = left.0 ++ there.tracks.items;
     between = left.1;
-    stops = subst (λ (xs : List (Track I O)). Stops remaining contents g base window opened told (scene names xs old) (left.0 ++ there.tracks.items) left.1 fault) none left.2;
+    breaks = inl (subst (λ (xs : List (Track I O)). Stops remaining contents g base window opened told (scene names xs old) (left.0 ++ there.tracks.items) left.1 fault) none left.2, never);
     looked = looks_more remaining g left.0 there.tracks.items left.1 mid new left.3 looked;
   }
+  abreast_part limit names opened old mid new there fault ts none (told, inr gives) looked = record {
+    done = told;
+    rest = there.tracks.items;
+    between = mid;
+    breaks = inr (subst (λ (xs : List (Track I O)). GivesUp remaining contents g base window limit opened told (scene names xs old) there.tracks.items mid fault) none gives);
+    looked = looked;
+  }
 
-  pub abreast : (names : List RecordName) (opened : List (Opening I O)) (old mid new : State J) (there : Window I O) (before after : Option (List Done)) (result : Result Tally RunFault) (ts : List (Track I O))
-      → ts ≡ [] → PushesThrough remaining contents g base window opened (scene names ts old) (scene_of there mid) before after result → LooksThrough remaining g there.tracks.items mid new
-      → PushesAbreast remaining contents g base window names opened old new before after result
-  abreast names opened old mid new there before after (Ok tally) ts none t looked = abreast_all names opened old mid new there before after tally ts none t looked
-  abreast names opened old mid new there before after (Err fault) ts none t looked = abreast_part names opened old mid new there fault ts none t looked
+  pub abreast : (limit : ℕ) (names : List RecordName) (opened : List (Opening I O)) (old mid new : State J) (there : Window I O) (before after : Option (List Done)) (result : Result Tally RunFault) (ts : List (Track I O))
+      → ts ≡ [] → PushesThrough remaining contents g base window limit opened (scene names ts old) (scene_of there mid) before after result → LooksThrough remaining g there.tracks.items mid new
+      → PushesAbreast remaining contents g base window limit names opened old new before after result
+  abreast limit names opened old mid new there before after (Ok tally) ts none t looked = abreast_all limit names opened old mid new there before after tally ts none t looked
+  abreast limit names opened old mid new there before after (Err fault) ts none t looked = abreast_part limit names opened old mid new there fault ts none t looked
 
-  pub abreast_none : (names : List RecordName) (old : State J) (before after : Option (List Done)) (fault : RunFault) → 0 < window → fault ≡ Memory → PushesAbreast remaining contents g base window names [] old old before after (Err fault)
-  abreast_none names old before after fault room is = record {
+  pub abreast_none : (limit : ℕ) (names : List RecordName) (old : State J) (before after : Option (List Done)) (fault : RunFault) → 0 < window → fault ≡ Memory → PushesAbreast remaining contents g base window limit names [] old old before after (Err fault)
+  abreast_none limit names old before after fault room is = record {
     done = [];
     rest = [];
     between = old;
-    stops = stops_here remaining contents g base window [] (at_start names old) [] old fault (inl (refl, refl, record { room = room; unmade = inr (refl, is); waits = inl refl }));
+    breaks = inl (stops_here remaining contents g base window [] (at_start names old) [] old fault (inl (refl, refl, record { room = room; unmade = inr (refl, is); waits = inl refl })), tt);
     looked = refl;
   }
 

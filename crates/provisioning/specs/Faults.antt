@@ -46,7 +46,7 @@ unanswered (NoAnswer answers.OutOfMemory) = Err Memory
 abbrev pub unlearnt : LearnFault → Result (Option RecordFault) RunFault
 unlearnt learning.Unfit = Ok (Some Unfit)
 unlearnt learning.Unversioned = Ok (Some Unversioned)
-unlearnt (learning.Refused status) = Ok (Some Refused)
+unlearnt (learning.Refused status) = Ok (Some (Refused status))
 unlearnt learning.NoSuchRecord = Ok (Some NoSuchRecord)
 unlearnt learning.Store = Err Journal
 unlearnt learning.Memory = Err Memory

@@ -10,6 +10,7 @@ pub mod Openings
 pub mod Records
 pub mod Runs
 pub mod Sources
+pub mod Streaks
 pub mod Today
 pub mod Reading
 pub mod Tracks

@@ -1,5 +1,5 @@
 -- The lines of a run.
-use Rattle.std.specs.Prelude.{ℕ, Bool, true, false, List, [], ◌++◌, Some, None, codes}
+use Rattle.std.specs.Prelude.{ℕ, Bool, true, false, ◌==◌, List, [], ◌++◌, Some, None, codes, if◌then◌else◌}
 use Rattle.std.specs.Fmt.{decimal}
 use Rattle.scim_key.specs.Revisions.{revision_text}
 use Rattle.scim_key.specs.declared.records.Kind.{Kind}
@@ -14,14 +14,28 @@ use Rattle.provisioning.specs.declared.faults.RecordFault.TheVariants as faults
 use Rattle.provisioning.specs.declared.older.OlderRow.{OlderRow}
 use Rattle.provisioning.specs.declared.records.Standing.{Standing}
 use Rattle.provisioning.specs.declared.records.Standing.TheVariants.{Confirmed, Waits, Unconfirmed}
+use Rattle.provisioning.specs.declared.streaks.Obstacle.{Obstacle}
+use Rattle.provisioning.specs.declared.streaks.Obstacle.TheVariants as obstacles
+use Rattle.provisioning.specs.declared.streaks.Streak.{Streak}
 
 -- the code of a fault
 abbrev pub record_fault_text : RecordFault → List ℕ
 record_fault_text (faults.Unanswered fault) = exchange_fault_text fault
 record_fault_text faults.Unfit = codes "C1"
 record_fault_text faults.Unversioned = codes "C2"
-record_fault_text faults.Refused = codes "C4"
+record_fault_text (faults.Refused status) = codes "C4"
 record_fault_text faults.NoSuchRecord = codes "C7"
+
+abbrev pub obstacle_text : Obstacle → List ℕ
+obstacle_text obstacles.Unauthorized = codes "401"
+obstacle_text obstacles.Forbidden = codes "403"
+obstacle_text obstacles.Lost = codes "the connection failed"
+
+-- how many records in a row met which obstacle
+abbrev pub streak_text : Streak → List ℕ
+streak_text streak =
+    if streak.count == 1 then codes "1 record: " ++ obstacle_text streak.obstacle
+    else decimal streak.count ++ (codes " records in a row: " ++ obstacle_text streak.obstacle)
 
 -- how the state of a record is printed
 abbrev pub standing_text : Standing → List ℕ

@@ -1,5 +1,5 @@
 -- The exchanges for one record, and its state after them.
-use Rattle.std.specs.Prelude.{◌≡◌, ◌≢◌, ◌⊎◌, ◌<◌, ◌≤◌, ℕ, List, [], ◌∷◌, ◌++◌, length, Option, Some, None, Result, Ok, Err, IsOk}
+use Rattle.std.specs.Prelude.{◌≡◌, ◌≢◌, ◌⊎◌, ◌<◌, ◌≤◌, ◌^◌, ◌-◌, ℕ, List, [], ◌∷◌, ◌++◌, length, Option, Some, None, Result, Ok, Err, IsOk}
 use Rattle.std.specs.Option.{option_or}
 use Rattle.scim_key.specs.declared.records.RecordName.{RecordName}
 use Rattle.journal_core.specs.declared.journals.Journal.{Ghosts}
@@ -16,6 +16,10 @@ use Rattle.provisioning.specs.declared.faults.RecordFault.TheVariants.{NoSuchRec
 use Rattle.provisioning.specs.declared.records.Pushed.{Pushed}
 use Rattle.provisioning.specs.declared.records.Standing.{Standing}
 use Rattle.provisioning.specs.declared.records.Standing.TheVariants.{Confirmed, Waits, Unconfirmed}
+
+-- the greatest number that a count has
+abbrev pub greatest_count : ℕ
+greatest_count = 2 ^ 32 - 1
 
 -- ---- exchanges
 

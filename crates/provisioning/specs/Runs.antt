@@ -1,5 +1,5 @@
 -- Every record, one after another.
-use Rattle.std.specs.Prelude.{◌≡◌, ◌⊎◌, ◌+◌, ◌^◌, ◌-◌, ◌&&◌, ℕ, Bool, true, false, List, [], ◌∷◌, ◌++◌, map, Option, Result, Ok, Err, min}
+use Rattle.std.specs.Prelude.{◌≡◌, ◌⊎◌, ⊤, ◌+◌, ◌&&◌, ℕ, Bool, true, false, List, [], ◌∷◌, ◌++◌, map, Option, None, Result, Ok, Err, min}
 use Rattle.std.specs.FinMap.{keys}
 use Rattle.std.specs.List.{list_all, sum_by}
 use Rattle.scim_key.specs.declared.records.RecordName.{RecordName}
@@ -8,13 +8,15 @@ use Rattle.journal_core.specs.declared.journals.Journal.{Ghosts}
 use Rattle.connector_core.specs.State.{State}
 use Rattle.provisioning.specs.Lists.{Adds}
 use Rattle.provisioning.specs.Openings.{Opening}
-use Rattle.provisioning.specs.Records.{EndsRun, IsPushed}
+use Rattle.provisioning.specs.Records.{EndsRun, IsPushed, greatest_count}
+use Rattle.provisioning.specs.Streaks.{IsGivenUp, go_on_after, streak_with}
 use Rattle.provisioning.specs.declared.faults.RunFault.{RunFault}
 use Rattle.provisioning.specs.declared.faults.RunFault.TheVariants.{Untold, Memory}
 use Rattle.provisioning.specs.declared.pushing.Tally.{Tally}
 use Rattle.provisioning.specs.declared.records.Pushed.{Pushed}
 use Rattle.provisioning.specs.declared.records.Standing.{Standing}
 use Rattle.provisioning.specs.declared.records.Standing.TheVariants.{Confirmed, Waits, Unconfirmed}
+use Rattle.provisioning.specs.declared.streaks.Streak.{Streak}
 
 -- a record and its result
 abbrev pub Done : Type 0
@@ -37,9 +39,6 @@ is_confirmed (Confirmed revision) = true
 is_confirmed (Waits member) = false
 is_confirmed (Unconfirmed fault) = false
 
-abbrev pub greatest_count : ℕ
-greatest_count = 2 ^ 32 - 1
-
 -- how many exchanges there were, up to the greatest number, and whether every record is confirmed
 abbrev pub tally_of : List Done → Tally
 tally_of done = record {
@@ -53,6 +52,26 @@ tally_with tally pushed = record {
   exchanges = min greatest_count (tally.exchanges + pushed.exchanges);
   is_settled = tally.is_settled && is_confirmed pushed.standing;
 }
+
+-- ---- the same obstacle in a row
+
+-- the streak after these records, one after another
+abbrev pub streak_after : Option Streak → List Done → Option Streak
+streak_after streak [] = streak
+streak_after streak (d ∷ done) = streak_after (streak_with streak d.1) done
+
+abbrev pub streak_of : List Done → Option Streak
+streak_of done = streak_after None done
+
+-- after each of these records the run goes on
+abbrev pub GoesOnAfterEach : (limit : ℕ) → Option Streak → List Done → Type 0
+GoesOnAfterEach limit streak [] = ⊤
+GoesOnAfterEach limit streak (d ∷ done) =
+    (go_on_after limit (streak_with streak d.1) ≡ Ok tt) × GoesOnAfterEach limit (streak_with streak d.1) done
+
+-- no streak among these records has reached the limit
+abbrev pub NeverGivesUp : (limit : ℕ) → List Done → Type 0
+NeverGivesUp limit done = GoesOnAfterEach limit None done
 
 -- ---- the run
 
@@ -81,9 +100,10 @@ pub record AllDone {I O J : Type 0} (remaining : I → Option (List ℕ)) (conte
   pub tells : Tells before after done
   pub tally_is : tally ≡ tally_of done
 
--- the first of these records were done, until the next one, or reporting the last of them, ended the run
+-- the first of these records were done, until the next one, or reporting the last of them, or a streak of this length,
+-- ended the run
 pub record PartDone {I O J : Type 0} (remaining : I → Option (List ℕ)) (contents : O → Option (List ℕ))
-    (g : Ghosts J) (base : List ℕ) (names : List RecordName) (opened : List (Opening I O))
+    (g : Ghosts J) (base : List ℕ) (limit : ℕ) (names : List RecordName) (opened : List (Opening I O))
     (old new : State J) (fault : RunFault) : Type 0 where
   pub done : List Done
   pub rest : List RecordName
@@ -94,22 +114,22 @@ pub record PartDone {I O J : Type 0} (remaining : I → Option (List ℕ)) (cont
   pub opened_are : opened ≡ first ++ last
   pub are : AreDone remaining contents g base done first old between
   pub ends : EndsAt remaining contents g base rest last between new fault
-      ⊎ ((last ≡ []) × (new ≡ between) × IsUntold fault)
+      ⊎ ((last ≡ []) × (new ≡ between) × (IsUntold fault ⊎ IsGivenUp limit fault))
 
 abbrev pub PushesEach : {I O J : Type 0} → (I → Option (List ℕ)) → (O → Option (List ℕ)) → Ghosts J
-    → List ℕ → List RecordName → (opened : List (Opening I O)) → (old new : State J)
+    → List ℕ → (limit : ℕ) → List RecordName → (opened : List (Opening I O)) → (old new : State J)
     → (before after : Option (List Done)) → Result Tally RunFault → Type 0
-PushesEach remaining contents g base names opened old new before after (Ok tally) =
+PushesEach remaining contents g base limit names opened old new before after (Ok tally) =
     AllDone remaining contents g base names opened old new before after tally
-PushesEach remaining contents g base names opened old new before after (Err fault) =
-    PartDone remaining contents g base names opened old new fault
+PushesEach remaining contents g base limit names opened old new before after (Err fault) =
+    PartDone remaining contents g base limit names opened old new fault
 
 -- The records of the connector in the order in which they settle; or memory ran out before the first of them. The
--- openings are those of their exchanges, in the order of the exchanges
+-- openings are those of their exchanges, in the order of the exchanges. No streak ends the run
 abbrev pub PushesAll : {I O J : Type 0} → (I → Option (List ℕ)) → (O → Option (List ℕ)) → Ghosts J
     → List ℕ → (opened : List (Opening I O)) → (old new : State J) → (before after : Option (List Done))
     → Result Tally RunFault → Type 0
 PushesAll remaining contents g base opened old new before after result =
     ((names : List RecordName) × IsSettleOrder (keys old.book) names
-    × PushesEach remaining contents g base names opened old new before after result)
+    × PushesEach remaining contents g base 0 names opened old new before after result)
     ⊎ ((opened ≡ []) × (result ≡ Err Memory) × (new ≡ old))

@@ -7,7 +7,8 @@ use Rattle.connector_core.specs.Maps.{book_of}
 use Rattle.connector_core.specs.State.{State}
 use Rattle.provisioning.specs.Exchanges.{IsUnmade}
 use Rattle.provisioning.specs.Openings.{Opening}
-use Rattle.provisioning.specs.Runs.{Done, IsUntold, Tells, tally_of}
+use Rattle.provisioning.specs.Runs.{Done, IsUntold, NeverGivesUp, Tells, streak_of, tally_of}
+use Rattle.provisioning.specs.Streaks.{go_on_after}
 use Rattle.provisioning.specs.Tracks.{Advances, Begins, Closes, IsLearnt, fresh, faulted}
 use Rattle.provisioning.specs.declared.faults.RecordFault.{RecordFault}
 use Rattle.provisioning.specs.declared.faults.RunFault.{RunFault}
@@ -174,6 +175,27 @@ module _ {I O J : Type 0} (remaining : I → Option (List ℕ))
     pub opened_are : opened ≡ first ++ last
     pub causes : Causes last between rest new fault
 
+  -- A record that is done was reported after moves, and with it the streak reached the limit, which ended the run. The
+  -- other records are these
+  pub record GivesUp (limit : ℕ) (opened : List (Opening I O)) (told : List Done) (old : Scene I O J)
+      (rest : List (Track I O)) (new : State J) (fault : RunFault) : Type 0 where
+    pub earlier : List Done
+    pub account : Account
+    pub standing : Standing
+    pub between : Scene I O J
+    pub moves : Moves opened earlier old between
+    pub tracks : IsWith (phases.Done account standing) rest between.tracks
+    pub told_are : told ≡ earlier ++ done_of account standing ∷ []
+    pub state : new ≡ between.state
+    pub never : NeverGivesUp limit earlier
+    pub gives_up : go_on_after limit (streak_of told) ≡ Err fault
+
+  -- what ended a run that has reported these records
+  abbrev pub Breaks : (limit : ℕ) → (opened : List (Opening I O)) → (told : List Done) → (old : Scene I O J)
+      → (rest : List (Track I O)) → (new : State J) → RunFault → Type 0
+  Breaks limit opened told old rest new fault =
+      (Stops opened told old rest new fault × NeverGivesUp limit told) ⊎ GivesUp limit opened told old rest new fault
+
   -- ---- the steps of a run
 
   -- moves without reports, which keep the order; or a fault after some
@@ -212,44 +234,49 @@ module _ {I O J : Type 0} (remaining : I → Option (List ℕ))
   Finishes opened first old new (Err fault) = Leaves opened [] (with_first first old) new fault
 
   -- all records were reported, in their order, and counted
-  pub record IsThrough (opened : List (Opening I O)) (old new : Scene I O J) (before after : Option (List Done))
-      (tally : Tally) : Type 0 where
+  pub record IsThrough (limit : ℕ) (opened : List (Opening I O)) (old new : Scene I O J)
+      (before after : Option (List Done)) (tally : Tally) : Type 0 where
     pub done : List Done
     pub names_are : map (λ d. d.0) done ≡ names_in old
     pub moves : Moves opened done old new
     pub none : (new.tracks ≡ []) × (new.waiting ≡ [])
     pub tells : Tells before after done
     pub tally_is : tally ≡ tally_of done
+    pub never : NeverGivesUp limit done
 
-  abbrev pub PushesThrough : (opened : List (Opening I O)) → (old new : Scene I O J)
+  abbrev pub PushesThrough : (limit : ℕ) → (opened : List (Opening I O)) → (old new : Scene I O J)
       → (before after : Option (List Done)) → Result Tally RunFault → Type 0
-  PushesThrough opened old new before after (Ok tally) = IsThrough opened old new before after tally
-  PushesThrough opened old new before after (Err fault) = (told : List Done) × Leaves opened told old new fault
+  PushesThrough limit opened old new before after (Ok tally) = IsThrough limit opened old new before after tally
+  PushesThrough limit opened old new before after (Err fault) = (told : List Done)
+      × ((Leaves opened told old new fault × NeverGivesUp limit told)
+      ⊎ GivesUp limit opened told old new.tracks new.state fault)
 
   -- ---- a run
 
   -- each of these records was reported, in this order, and counted
-  pub record AllMoved (names : List RecordName) (opened : List (Opening I O)) (old new : State J)
+  pub record AllMoved (limit : ℕ) (names : List RecordName) (opened : List (Opening I O)) (old new : State J)
       (before after : Option (List Done)) (tally : Tally) : Type 0 where
     pub done : List Done
     pub names_are : map (λ d. d.0) done ≡ names
     pub moves : Moves opened done (at_start names old) (at_start [] new)
     pub tells : Tells before after done
     pub tally_is : tally ≡ tally_of done
+    pub never : NeverGivesUp limit done
 
   -- a fault ended the run; then each answer that was under way was learnt from
-  pub record PartMoved (names : List RecordName) (opened : List (Opening I O)) (old new : State J)
+  pub record PartMoved (limit : ℕ) (names : List RecordName) (opened : List (Opening I O)) (old new : State J)
       (fault : RunFault) : Type 0 where
     pub done : List Done
     pub rest : List (Track I O)
     pub between : State J
-    pub stops : Stops opened done (at_start names old) rest between fault
+    pub breaks : Breaks limit opened done (at_start names old) rest between fault
     pub looked : LooksThrough remaining g rest between new
 
-  abbrev pub PushesAbreast : (names : List RecordName) → (opened : List (Opening I O)) → (old new : State J)
-      → (before after : Option (List Done)) → Result Tally RunFault → Type 0
-  PushesAbreast names opened old new before after (Ok tally) = AllMoved names opened old new before after tally
-  PushesAbreast names opened old new before after (Err fault) = PartMoved names opened old new fault
+  abbrev pub PushesAbreast : (limit : ℕ) → (names : List RecordName) → (opened : List (Opening I O))
+      → (old new : State J) → (before after : Option (List Done)) → Result Tally RunFault → Type 0
+  PushesAbreast limit names opened old new before after (Ok tally) =
+      AllMoved limit names opened old new before after tally
+  PushesAbreast limit names opened old new before after (Err fault) = PartMoved limit names opened old new fault
 
 -- ---- what the functions give
 

@@ -34,7 +34,7 @@ pub(crate) fn explain(failed: &Failed<'_>) -> Result<Option<Explanation>, AllocE
     match failed.fault {
         RecordFault::Unfit => explain_unfit(failed),
         RecordFault::Unversioned => phrase(Phrase::NoTag),
-        RecordFault::Refused => explain_refused(failed),
+        RecordFault::Refused(_) => explain_refused(failed),
         RecordFault::Unanswered(fault) => explain_unanswered(failed, fault),
         RecordFault::NoSuchRecord => Ok(None),
     }

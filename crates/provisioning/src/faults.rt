@@ -5,6 +5,7 @@ ghost use Rattle.provisioning.specs.Faults.{failed, open_fault, unanswered, unle
 ghost use Rattle.provisioning.specs.Runs.{IsUntold};
 ghost use Rattle.provisioning.specs.declared.faults.RunFault.TheVariants.{Untold};
 
+use crate::streaks::Streak;
 use connector_core::{ConnectorOpenFault, LearnFault};
 use scim_client::{AnswerFault, ExchangeFault};
 use std::alloc::AllocError;
@@ -21,8 +22,8 @@ pub enum RecordFault {
     Unfit,
     /// The resource is shown without an entity tag.
     Unversioned,
-    /// The provider refuses, with any status.
-    Refused,
+    /// The provider refuses, with this status.
+    Refused(u16),
     /// The source gave no row of this record.
     NoSuchRecord,
 }
@@ -38,7 +39,7 @@ impl fmt::Display for RecordFault {
             RecordFault::Unanswered(fault) => write!(f, "{fault}"),
             RecordFault::Unfit => f.write_str("C1"),
             RecordFault::Unversioned => f.write_str("C2"),
-            RecordFault::Refused => f.write_str("C4"),
+            RecordFault::Refused(_) => f.write_str("C4"),
             RecordFault::NoSuchRecord => f.write_str("C7"),
         }
     }
@@ -56,6 +57,9 @@ pub enum RunFault {
     /// The line of a row or of a record couldn't be written.
     #[error("file fault")]
     Untold,
+    /// So many records in a row met the same obstacle.
+    #[error("given up after {0}")]
+    GivenUp(Streak),
     #[error("memory fault")]
     Memory,
 }
@@ -116,7 +120,7 @@ pub(crate) fn unlearnt(fault: LearnFault) -> Result<Option<RecordFault>, RunFaul
     match fault {
         LearnFault::Unfit => Ok(Some(RecordFault::Unfit)),
         LearnFault::Unversioned => Ok(Some(RecordFault::Unversioned)),
-        LearnFault::Refused { status: _ } => Ok(Some(RecordFault::Refused)),
+        LearnFault::Refused { status } => Ok(Some(RecordFault::Refused(status))),
         LearnFault::NoSuchRecord => Ok(Some(RecordFault::NoSuchRecord)),
         LearnFault::Store => Err(RunFault::Journal),
         LearnFault::Memory => Err(RunFault::Memory),

@@ -30,19 +30,22 @@ pub struct Pace {
     pub streams: u32,
     /// Users who left come before the others.
     pub leavers_first: bool,
+    /// After how many records in a row that met the same obstacle the run gives up. With 0 it doesn't.
+    pub give_up_after: u32,
 }
 
 /// One record after another, in the order of keys.
 pub(crate) const IN_TURN: Pace = Pace {
     streams: 1,
     leavers_first: false,
+    give_up_after: 0,
 };
 
 /// Makes exchanges for every record of the connector at this pace: users by key, then groups by key; users who
 /// left may come before the others. Groups begin when every user is done. It reports each record as soon as it
 /// and all before it are done. With one stream, a record begins when the one before it is reported. The run ends
-/// early if a stream can't be opened, the journal fails, a record can't be reported, or memory runs out; then it
-/// learns from the answers that are under way.
+/// early if a stream can't be opened, the journal fails, a record can't be reported, memory runs out, or it gives
+/// up; then it learns from the answers that are under way.
 pub fn push_at<J: Journal, D: Dial, T: Tell>(
     alloc: Global,
     service: &ScimService,
@@ -61,8 +64,9 @@ pub fn push_at<J: Journal, D: Dial, T: Tell>(
     let mut users = VecDeque::from_vec(names);
     let groups = users.split_off(count)?;
     let streams = pace.streams as usize;
+    let limit = pace.give_up_after;
     push_both(
-        alloc, service, connector, dial, teller, users, groups, streams,
+        alloc, service, connector, dial, teller, users, groups, streams, limit,
     )
 }
 
@@ -94,13 +98,18 @@ fn push_both<J: Journal, D: Dial, T: Tell>(
     users: VecDeque<RecordName>,
     groups: VecDeque<RecordName>,
     streams: usize,
+    limit: u32,
 ) -> Result<Tally, RunFault>
     ensures { Opens (D.opened dial.old) (D.opened dial.new) (λ opened. PushesBoth
-        D.Reader.remaining D.Writer.contents J.Journal service.now (window_of streams) users.items groups.items opened
-        connector.old connector.new (T.told teller.old) (T.told teller.new) result) }
+        D.Reader.remaining D.Writer.contents J.Journal service.now (window_of streams) limit
+        users.items groups.items opened connector.old connector.new (T.told teller.old) (T.told teller.new) result) }
 {
-    let tally = push_abreast(alloc, service, connector, dial, teller, users, streams)?;
-    match push_abreast(alloc, service, connector, dial, teller, groups, streams) {
+    let tally = push_abreast(
+        alloc, service, connector, dial, teller, users, streams, limit,
+    )?;
+    match push_abreast(
+        alloc, service, connector, dial, teller, groups, streams, limit,
+    ) {
         Ok(more) => Ok(both(tally, more)),
         Err(fault) => Err(fault),
     }

@@ -9,6 +9,7 @@ use crate::dialing::Dial;
 use crate::faults::RunFault;
 use crate::pushing::{Tally, tell};
 use crate::records::{Pushed, Standing};
+use crate::streaks::{go_on_after, streak_with};
 use crate::telling::Tell;
 use crate::tracks::{Account, Track, advance, close, go_on};
 use connector_core::Connector;
@@ -30,8 +31,8 @@ pub(crate) struct Window<R: Drop, W: Drop> {
 }
 
 /// Makes exchanges for these records, for up to `streams` of them at once, and reports each in their order.
-/// With one stream, a record begins when the one before it is reported. After a fault it learns from the
-/// answers that are under way.
+/// With one stream, a record begins when the one before it is reported. It gives up after so many records in a
+/// row that met the same obstacle. After a fault it learns from the answers that are under way.
 pub(crate) fn push_abreast<J: Journal, D: Dial, T: Tell>(
     alloc: Global,
     service: &ScimService,
@@ -40,10 +41,11 @@ pub(crate) fn push_abreast<J: Journal, D: Dial, T: Tell>(
     teller: &mut T,
     names: VecDeque<RecordName>,
     streams: usize,
+    limit: u32,
 ) -> Result<Tally, RunFault>
     ensures { Opens (D.opened dial.old) (D.opened dial.new) (λ opened. PushesAbreast
-        D.Reader.remaining D.Writer.contents J.Journal service.now (window_of streams) names.items opened
-        connector.old connector.new (T.told teller.old) (T.told teller.new) result) }
+        D.Reader.remaining D.Writer.contents J.Journal service.now (window_of streams) limit
+        names.items opened connector.old connector.new (T.told teller.old) (T.told teller.new) result) }
 {
     let mut window = Window {
         waiting: names,
@@ -57,6 +59,7 @@ pub(crate) fn push_abreast<J: Journal, D: Dial, T: Tell>(
         teller,
         &mut window,
         streams,
+        limit,
     );
     look_through(alloc, connector, dial, &mut window.tracks);
     pushed
@@ -72,9 +75,10 @@ fn push_through<J: Journal, D: Dial, T: Tell>(
     teller: &mut T,
     window: &mut Window<D::Reader, D::Writer>,
     streams: usize,
+    limit: u32,
 ) -> Result<Tally, RunFault>
     ensures { Opens (D.opened dial.old) (D.opened dial.new) (λ opened. PushesThrough
-        D.Reader.remaining D.Writer.contents J.Journal service.now (window_of streams) opened
+        D.Reader.remaining D.Writer.contents J.Journal service.now (window_of streams) limit opened
         (scene_of window.old connector.old) (scene_of window.new connector.new)
         (T.told teller.old) (T.told teller.new) result) }
 {
@@ -82,10 +86,13 @@ fn push_through<J: Journal, D: Dial, T: Tell>(
         exchanges: 0,
         is_settled: true,
     };
+    let mut streak = None;
     while let Some(first) = first_track(alloc, service, connector, dial, window)? {
         let (name, pushed) = finish(alloc, service, connector, dial, window, streams, first)?;
         tally = tally.with(&pushed);
         tell(teller, &name, &pushed)?;
+        streak = streak_with(streak, &pushed);
+        go_on_after(limit, streak)?;
     }
     Ok(tally)
 }

@@ -202,6 +202,14 @@ static COMMANDS: &[CommandText] = &[
                 rule: Rule::Without("plan"),
                 help: Help::Text("carries users who left before the others"),
             },
+            OptionText {
+                name: "give-up-after",
+                value: Value::Count,
+                rule: Rule::Without("plan"),
+                help: Help::Text(
+                    "ends if as many records in a row fail alike, 10 by default, 0 for never",
+                ),
+            },
         ],
     },
     CommandText {

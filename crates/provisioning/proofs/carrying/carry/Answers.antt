@@ -8,7 +8,7 @@ use Rattle.provisioning.proofs.carrying.carry.Goals as goal
 
 -- one record after another, in the order of keys
 abbrev in_turn : Pace
-in_turn = record { streams = 1; leavers_first = false }
+in_turn = record { streams = 1; leavers_first = false; give_up_after = 0 }
 
 pub returns : goal.returns
 returns g c =

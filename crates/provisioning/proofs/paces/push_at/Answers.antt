@@ -36,7 +36,7 @@ returns-clause-pushes g c =
       inl (
         c.in_ok-names.names.items,
         c.in_ok-names.ensures.order,
-        both_of g.D.Reader.Read.remaining g.D.Writer.Write.contents g.J.Journal c.args.service.now (window_of c.args.pace.streams) c.in_ok-names.names.items c.from_vec-users.result.items c.split_off.new.self.items c.in_ok-groups.groups.items c.users_in-count.result
+        both_of g.D.Reader.Read.remaining g.D.Writer.Write.contents g.J.Journal c.args.service.now (window_of c.args.pace.streams) c.args.pace.give_up_after c.in_ok-names.names.items c.from_vec-users.result.items c.split_off.new.self.items c.in_ok-groups.groups.items c.users_in-count.result
             b.0 c.args.connector.now c.push_both.new.connector (g.T.Tell.told c.args.teller.now) (g.T.Tell.told c.push_both.new.teller) c.push_both.result
             c.from_vec-users.ensures.items c.in_ok-groups.ensures.items c.in_ok-groups.ensures.tail (c.users_in-count.ensures ∙ ap (prefix_len is_user) c.as_slice.ensures.value) b.2,
       ),
@@ -45,5 +45,5 @@ returns-clause-pushes g c =
 pub returns-clause-onward : goal.returns-clause-onward
 returns-clause-onward g c =
     let b = c.push_both.ensures in
-    both_onward g.D.Reader.Read.remaining g.D.Writer.Write.contents g.J.Journal c.args.service.now (window_of c.args.pace.streams) c.split_off.new.self.items c.in_ok-groups.groups.items
+    both_onward g.D.Reader.Read.remaining g.D.Writer.Write.contents g.J.Journal c.args.service.now (window_of c.args.pace.streams) c.args.pace.give_up_after c.split_off.new.self.items c.in_ok-groups.groups.items
     b.0 c.args.connector.now c.push_both.new.connector (g.T.Tell.told c.args.teller.now) (g.T.Tell.told c.push_both.new.teller) c.push_both.result b.2
