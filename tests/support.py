@@ -339,8 +339,8 @@ class Site:
     def show_store(self):
         return scimlink("show", "--store", self.store)
 
-    def reset(self, **options):
-        return scimlink("reset", "--journal", self.journal, **options)
+    def reset(self, *names, **options):
+        return scimlink("reset", "--journal", self.journal, *names, **options)
 
     def show_journal(self):
         return scimlink("show", "--journal", self.journal)

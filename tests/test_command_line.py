@@ -25,7 +25,6 @@ NOT_PARSED = [
     [*PUSH, "more"],
     ["reset"],
     ["reset", "--store", "store"],
-    ["reset", "--journal", "journal", "more"],
     ["serve", "--requests", "1"],
     [*SERVE, "more"],
     *(["serve", "--listen", "127.0.0.1:0", f"--requests={count}"] for count in ("-1", "x", "", "1.5", "4294967297")),

@@ -1,6 +1,6 @@
 """`reset`: a journal forgets what the provider has shown. (What it refuses is in test_openings.py and test_journals.py.)"""
 from databases import group_entry, make_journal, sql, user_entry
-from support import NOWHERE, ProgramTest, full_disk, resource_id, writes_of
+from support import NOWHERE, ProgramTest, full_disk, resource_id, scimlink, writes_of
 
 USERS = [
     user_entry("ann", revision=7, confirmed=5, id=resource_id(1), number="1001", given="Ann", family="Lee"),
@@ -71,6 +71,89 @@ class ResetTest(JournalTest):
         learnt = "SELECT count(*) FROM user_entry_3 WHERE confirmed <> 0 OR confirmed_epoch <> 0 OR id IS NOT NULL"
         self.assertEqual(sql(self.site.journal, learnt), [(0,)])
         self.assertEqual(sql(self.site.journal, "SELECT count(*) FROM user_entry_3"), [(100_000,)])
+
+
+class NamedResetTest(JournalTest):
+    """`reset` of the records that the arguments name."""
+
+    def setUp(self):
+        super().setUp()
+        make_journal(self.site.journal, USERS, GROUPS)
+
+    def assert_only_forgotten(self, *names):
+        """The entries with these keys are forgotten, and the others are as they were."""
+        self.assertEqual(self.entries(), [[forgotten(entry) if entry[1] in names else entry for entry in entries]
+                                          for entries in (USERS, GROUPS)])
+
+    def test_a_user(self):
+        self.assert_prints(self.site.reset("user:ann"), "reset 1 records")
+        self.assert_only_forgotten("ann")
+
+    def test_a_group(self):
+        self.assert_prints(self.site.reset("group:band"), "reset 1 records")
+        self.assert_only_forgotten("band")
+
+    def test_several_in_any_order_and_case(self):
+        self.assert_prints(self.site.reset("user:DAN", "group:Band", "user:bOb"), "reset 3 records")
+        self.assert_only_forgotten("dan", "band", "bob")
+        self.assertEqual(sql(self.site.journal, "PRAGMA integrity_check"), [("ok",)])
+
+    def test_a_name_twice_counts_once(self):
+        self.assert_prints(self.site.reset("user:ann", "user:Ann", "user:ann"), "reset 1 records")
+        self.assert_only_forgotten("ann")
+
+    def test_a_record_of_which_nothing_was_learnt_is_not_counted(self):
+        self.assert_prints(self.site.reset("user:cid", "group:crew", "user:ann"), "reset 1 records")
+        self.assert_only_forgotten("ann")
+        self.assert_prints(self.site.reset("user:cid"), "reset 0 records")
+
+    def test_a_user_and_a_group_of_one_name_differ(self):
+        self.assert_prints(self.site.reset("group:ann"), status=1, errors=["group:ann isn't in the journal"])
+        self.assert_only_forgotten()
+
+    def test_one_that_is_not_there_changes_nothing(self):
+        for names, first in ((["user:zed"], "user:zed"), (["user:ann", "user:Zed", "group:none"], "user:zed"),
+                             (["group:none", "user:ann", "user:zed"], "group:none")):
+            with self.subTest(names=names):
+                self.assert_prints(self.site.reset(*names), status=1, errors=[f"{first} isn't in the journal"])
+                self.assert_only_forgotten()
+
+    def test_words_that_name_no_record(self):
+        words = ["bob", "user:", "users:bob", "user bob", "USER:bob", ":bob", "", "group:", "user:" + "a" * 1000, "user:a\nb"]
+        for word in words:
+            with self.subTest(word=word):
+                run = self.site.reset("user:ann", word)
+                shown = word.replace("\n", "\\x0a")
+                self.assert_prints(run, status=2, errors=[f"error: '{shown}' isn't user:LOGIN or group:NAME"])
+        self.assert_only_forgotten()
+
+    def test_a_wrong_word_comes_before_a_journal_that_is_not_there(self):
+        run = scimlink("reset", "--journal", "nowhere", "bob")
+        self.assert_prints(run, status=2, errors=["error: 'bob' isn't user:LOGIN or group:NAME"])
+
+    def test_many_names(self):
+        names = [f"u{place:05}" for place in range(10_000)]
+        self.site.journal.unlink()
+        make_journal(self.site.journal, (user_entry(name, confirmed=1, id=name) for name in names))
+        self.assert_prints(self.site.reset(*(f"user:{name}" for name in names[::5])), "reset 2000 records")
+        learnt = "SELECT count(*) FROM user_entry_3 WHERE confirmed <> 0 OR id IS NOT NULL"
+        self.assertEqual(sql(self.site.journal, learnt), [(8_000,)])
+
+
+class LostAccountTest(JournalTest):
+    """An account was deleted at the provider and made anew, with another id."""
+
+    def test_a_reset_of_its_record_heals_it(self):
+        self.site.write_users("ann,1,,,,,active", "bob,1,,,,,active")
+        with self.serving(4, "--store", self.site.store) as provider:
+            self.assert_prints(self.site.push(provider.address), "user ann confirmed 1", "user bob confirmed 1")
+        sql(self.site.store, "UPDATE resource SET number = 9 WHERE name_key = 'bob'")
+        self.site.write_users("ann,1,,,,,active", "bob,2,,,,,left")
+        self.assert_prints(self.site.reset("user:bob"), "reset 1 records")
+        # ann sends nothing: a search for bob, and his replacement
+        with self.serving(2, "--store", self.site.store) as provider:
+            self.assert_prints(self.site.push(provider.address), "user ann confirmed 1", "user bob confirmed 2")
+        self.assertIn(resource_id(9), self.site.show_journal().output.decode())
 
 
 class LostStoreTest(JournalTest):

@@ -3,3 +3,4 @@ pub mod RunLemmas
 mod LimitLemmas
 mod StoredLemmas
 pub mod AmongLemmas
+pub mod ScopeLemmas

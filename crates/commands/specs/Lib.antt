@@ -5,6 +5,7 @@ pub mod Statuses
 pub mod Images
 pub mod Words
 pub mod Simulating
+pub mod Scopes
 pub mod Running
 pub mod Looping
 pub mod Loops

@@ -1,5 +1,5 @@
 -- What the commands do over the files that they open, and the exit status after that.
-use Rattle.std.specs.Prelude.{◌≡◌, ◌⊎◌, ⊤, ℕ, Bool, true, false, List, Option, Some, None, Result, Ok, Err, OnOk, codes, option_map}
+use Rattle.std.specs.Prelude.{◌≡◌, ◌⊎◌, ⊤, ℕ, Bool, true, false, List, Option, Some, None, Result, Ok, Err, IfOk, OnOk, codes, option_map}
 use denote.Ref.{Bor}
 use Rattle.std.specs.declared.io.Error.{Error}
 use Rattle.clap.specs.Matches.{first_value}
@@ -9,6 +9,8 @@ use Rattle.journal_core.specs.Calls.{Reads}
 use Rattle.journal_core.specs.Entries.{EntryMap}
 use Rattle.journal_core.specs.declared.journals.Journal.{Ghosts as Journals}
 use Rattle.journal_store.specs.declared.opening.JournalOpenFault.{JournalOpenFault}
+use Rattle.journal_store.specs.declared.scopes.ResetResult.{ResetResult}
+use Rattle.journal_store.specs.declared.scopes.Scope.{Scope}
 use Rattle.scim_resource.specs.Rows.{StoredRecord}
 use Rattle.provider_core.specs.declared.registry.Registry.{Ghosts as Registries}
 use Rattle.connector_core.specs.Maps.{BookMap}
@@ -32,14 +34,15 @@ use Rattle.provisioning.specs.declared.sources.UnreadFile.{UnreadFile}
 use Rattle.commands.specs.Addresses.{text_in}
 use Rattle.commands.specs.Causes.{concluded, source_part}
 use Rattle.commands.specs.Layouts.{GivesLayouts}
-use Rattle.commands.specs.Statuses.{journal_fault, pushed_status, shown_status, unread_fault}
+use Rattle.commands.specs.Scopes.{IsScope, are_records}
+use Rattle.commands.specs.Statuses.{journal_fault, pushed_status, reset_status, shown_status, unread_fault}
 use Rattle.commands.specs.Words.{wanted, wanted_base}
 use Rattle.commands.specs.declared.jobs.Job.{Job}
 use Rattle.commands.specs.declared.manners.Delivery.{Delivery}
 use Rattle.commands.specs.declared.status.CommandFault.{CommandFault}
 use Rattle.commands.specs.declared.status.CommandFault.TheVariants as fault
 use Rattle.commands.specs.declared.status.Status.{Status}
-use Rattle.commands.specs.declared.status.Status.TheVariants.{Done}
+use Rattle.commands.specs.declared.status.Status.TheVariants.{Done, Usage}
 
 -- ---- `show` and `reset`
 
@@ -48,14 +51,28 @@ abbrev pub EndsShowing : Type 0 → (last : Option Error) → Result Status Comm
 EndsShowing holds last ended = (shown : Result (Unit {0}) ShowFault) × OnOk shown holds
     × (ended ≡ concluded last (shown_status shown))
 
--- a journal was opened, and has forgotten what was learnt
-abbrev pub IsReset : {J : Type 0} → Journals J → (finds : EntryMap → Type 0) → Status → Type 0
-IsReset g finds status = (status ≡ Done) × ((count : ℕ) × ResetsFrom g finds count)
+-- the same of a reset, by its answer
+abbrev pub EndsResetting : (holds : ResetResult → Type 0) → (last : Option Error) → Result Status CommandFault → Type 0
+EndsResetting holds last ended = (shown : Result ResetResult ShowFault) × IfOk shown holds
+    × (ended ≡ concluded last (reset_status shown))
+
+-- a journal was opened, and these of its records are reset; the answer gives the status
+abbrev pub IsReset : {J : Type 0} → Journals J → (finds : EntryMap → Type 0) → Scope → Status → Type 0
+IsReset g finds scope status = (answer : ResetResult) × ResetsFrom g finds scope answer
+    × (reset_status (Ok answer) ≡ Ok status)
 
 -- the one that was named
-abbrev pub IsResetAt : {J H : Type 0} → Journals J → (finds : H → EntryMap → Type 0) → Option (Bor H) → Status → Type 0
-IsResetAt g finds (Some journal) status = IsReset g (finds journal.now) status
-IsResetAt g finds None status = ⊥
+abbrev pub IsResetOf : {J H : Type 0} → Journals J → (finds : H → EntryMap → Type 0) → Scope → Option (Bor H)
+    → Status → Type 0
+IsResetOf g finds scope (Some journal) status = IsReset g (finds journal.now) scope status
+IsResetOf g finds scope None status = ⊥
+
+-- the records that these words name are reset; or a word names none, and nothing is opened
+abbrev pub IsResetAt : {J H : Type 0} → Journals J → (finds : H → EntryMap → Type 0) → (texts : List (List ℕ))
+    → Option (Bor H) → Status → Type 0
+IsResetAt g finds texts journal status =
+    ((scope : Scope) × IsScope texts scope × IsResetOf g finds scope journal status)
+    ⊎ ((status ≡ Usage) × (are_records texts ≡ false))
 
 -- a line was written for each row of a store that was opened
 abbrev pub AreRowsShown : {R : Type 0} → Registries R → (finds : List StoredRecord → Type 0) → Status → Type 0

@@ -37,6 +37,8 @@ use Rattle.connection.specs.declared.answering.Served.TheVariants.{Answered, NoR
 use Rattle.connection.specs.declared.serving.ConnectionFault.{ConnectionFault}
 use Rattle.storage.specs.declared.looking.LookFault.{LookFault}
 use Rattle.storage.specs.declared.looking.LookFault.TheVariants as look
+use Rattle.journal_store.specs.declared.scopes.ResetResult.{ResetResult}
+use Rattle.journal_store.specs.declared.scopes.ResetResult.TheVariants as reset
 use Rattle.storage.specs.declared.show_fault.ShowFault.{ShowFault}
 use Rattle.storage.specs.declared.show_fault.ShowFault.TheVariants as show
 use Rattle.provisioning.specs.Carrying.{is_done}
@@ -226,10 +228,16 @@ abbrev pub pushed_status : Result Outcome RunFault → Result Status CommandFaul
 pushed_status (Ok outcome) = Ok (carried_status outcome)
 pushed_status (Err why) = Err (fault.Run why)
 
--- the exit status of a `show` or a `reset`
+-- the exit status of a `show`
 abbrev pub shown_status : Result (Unit {0}) ShowFault → Result Status CommandFault
 shown_status (Ok done) = Ok Done
 shown_status (Err why) = Err (show_fault why)
+
+-- the exit status of a `reset`
+abbrev pub reset_status : Result ResetResult ShowFault → Result Status CommandFault
+reset_status (Ok (reset.Changed count)) = Ok Done
+reset_status (Ok (reset.Absent name)) = Ok Refused
+reset_status (Err why) = Err (show_fault why)
 
 -- the exit status of a `loop`
 abbrev pub run_status : Result Outcome LoopFault → Result Status CommandFault

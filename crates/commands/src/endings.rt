@@ -1,11 +1,12 @@
 //! The exit status of a run, by its result.
 ghost use Rattle.std.specs.Prelude.{◌≡◌};
 ghost use Rattle.std.specs.List.{list_all};
-ghost use Rattle.commands.specs.Statuses.{carried_status, is_confirmed, is_taken, outcome_status, pushed_status, run_status, several_status, shown_status, simulated_status};
+ghost use Rattle.commands.specs.Statuses.{carried_status, is_confirmed, is_taken, outcome_status, pushed_status, reset_status, run_status, several_status, shown_status, simulated_status};
 
 use crate::looping::LoopFault;
 use crate::status::{CommandFault, Status};
 use connection::ConnectionFault;
+use journal_store::ResetResult;
 use provisioning::{Outcome, RunFault};
 use storage::ShowFault;
 use world_sim::{Report, TurnReport, View};
@@ -38,12 +39,23 @@ pub fn pushed_status(ended: Result<Outcome, RunFault>) -> Result<Status, Command
     Ok(carried_status(ended?))
 }
 
-/// The exit status of a `show` or a `reset`, by whether its lines were written.
+/// The exit status of a `show`, by whether its lines were written.
 pub fn shown_status(shown: Result<(), ShowFault>) -> Result<Status, CommandFault>
     ensures { result ≡ shown_status shown }
 {
     shown?;
     Ok(Status::Done)
+}
+
+/// The exit status of a `reset`, by its answer.
+pub(crate) fn reset_status(shown: Result<ResetResult, ShowFault>) -> Result<Status, CommandFault>
+    ensures { result ≡ reset_status shown }
+{
+    match shown {
+        Ok(ResetResult::Changed(_)) => Ok(Status::Done),
+        Ok(ResetResult::Absent(_)) => Ok(Status::Refused),
+        Err(fault) => Err(CommandFault::from(fault)),
+    }
 }
 
 /// The exit status of a `loop`, by the result of its run.

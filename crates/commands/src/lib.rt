@@ -15,6 +15,7 @@ mod output;
 mod planning;
 mod pushing;
 mod resetting;
+mod scopes;
 mod serving;
 mod showing;
 pub mod simulating;

@@ -156,7 +156,7 @@ pub record PutSoFar (rows : List source.Row) (at : ℕ) (old now : State) : Type
   pub numbers : HasCleanDisk now → HasNumbers now.now.trees
   pub lawful : HasCleanDisk now → CanPutRows (entries_in now.now.trees) (drop at rows)
 
-under_way_still : (old now : State) → IsUnderWay old → Survives old now (λ _. ⊥) → (HasCleanDisk now → IsUnchanged old now) → IsUnderWay now
+pub under_way_still : (old now : State) → IsUnderWay old → Survives old now (λ _. ⊥) → (HasCleanDisk now → IsUnchanged old now) → IsUnderWay now
 under_way_still old now under_way quiet same = record {
   inside = λ clean. let early : HasCleanDisk old = omega (arith, clean, quiet.clean) in subst IsTrue (sym (same clean).0.mode) (under_way.inside early);
   laid = λ clean still.

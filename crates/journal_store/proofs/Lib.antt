@@ -35,3 +35,4 @@ pub mod Undertaking
 pub mod Single
 pub mod Learnt
 pub mod Unknown
+pub mod Scoping

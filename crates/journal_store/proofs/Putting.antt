@@ -287,7 +287,7 @@ pub found_none : (db : Trees) (name : RecordName) → Finds db name None → get
 found_none db name none = get_none db name (λ e stands is.
     empty_has _ stands.row none (has_kept (has_key name.key) (db (entry_tree name.kind)) stands.row stands.there (has_own_key name.kind stands.row e name stands.shows is)))
 
-found_some : (db : Trees) (name : RecordName) (e : Entry) → Finds db name (Some e) → (get (entries_in db) name ≡ Some e) × (row_name e.row ≡ name)
+pub found_some : (db : Trees) (name : RecordName) (e : Entry) → Finds db name (Some e) → (get (entries_in db) name ≡ Some e) × (row_name e.row ≡ name)
 found_some db name e finds =
     let r = finds.0 in
     let was = has_filtered (has_key name.key) (db (entry_tree name.kind)) r (subst (λ l. Has l r) (sym finds.1) (inl refl)) in

@@ -96,19 +96,19 @@ module _ {S : Type 0} (g : Ghosts S) where
         }
 
     -- whatever the statements answered
-    pub writes_sound : (made : Result (Unit {0}) TableFault) → (HasCleanDisk (at new) → OnOk made (Commits Changes (at old) (at new))) → (HasCleanDisk (at new) → OnErr made (Keeps (at old) (at new))) → IsSound g new
+    pub writes_sound : {T : Type 0} (made : Result T TableFault) → (HasCleanDisk (at new) → OnOk made (Commits Changes (at old) (at new))) → (HasCleanDisk (at new) → OnErr made (Keeps (at old) (at new))) → IsSound g new
     writes_sound (Ok x) makes keeps clean still use_it = (wrote_faithful makes clean).whole
     writes_sound (Err fault) makes keeps clean still use_it =
         let kept = keeps clean in
         whole_still old new usable kept (faithful_before clean (kept.was_open still)).whole still
 
-    pub writes_open : (made : Result (Unit {0}) TableFault) → (HasCleanDisk (at new) → OnOk made (Commits Changes (at old) (at new))) → (result : Result (Unit {0}) StoreFault) → result ≡ call_result made
+    pub writes_open : {T : Type 0} (made : Result T TableFault) → (HasCleanDisk (at new) → OnOk made (Commits Changes (at old) (at new))) → (result : Result T StoreFault) → result ≡ call_result made
         → HasCleanDisk (at new) → OnOk result (IsFaithful g new)
     writes_open (Ok x) makes result is clean = subst (λ r. OnOk r (IsFaithful g new)) (sym is) (wrote_faithful makes clean)
     writes_open (Err fault) makes result is clean = subst (λ r. OnOk r (IsFaithful g new)) (sym is) tt
 
-    module _ (result : Result (Unit {0}) StoreFault) (counts : CountsFaults CountsFault old.faults new.faults result) (written : new.writes ≤ old.writes + 1) (unwritten : OnErr result (new.writes ≡ old.writes)) where
-      pub writes : (made : Result (Unit {0}) TableFault) → (HasCleanDisk (at new) → OnOk made (Commits Changes (at old) (at new))) → (HasCleanDisk (at new) → OnErr made (Keeps (at old) (at new))) → result ≡ call_result made
+    module _ {T : Type 0} (result : Result T StoreFault) (counts : CountsFaults CountsFault old.faults new.faults result) (written : new.writes ≤ old.writes + 1) (unwritten : OnErr result (new.writes ≡ old.writes)) where
+      pub writes : (made : Result T TableFault) → (HasCleanDisk (at new) → OnOk made (Commits Changes (at old) (at new))) → (HasCleanDisk (at new) → OnErr made (Keeps (at old) (at new))) → result ≡ call_result made
           → Writes g old new later result
       writes (Ok x) makes keeps is = record {
         was = λ it. faithful_before it.clean (makes it.clean).was_open;

@@ -27,6 +27,6 @@ OpensAgain g old new result =
     CountsFault old new result
 
 -- the result of a call that writes, for that of its statements
-abbrev pub call_result : Result (Unit {0}) TableFault → Result (Unit {0}) StoreFault
+abbrev pub call_result : {T : Type 0} → Result T TableFault → Result T StoreFault
 call_result (Ok x) = Ok x
 call_result (Err fault) = Err (table_fault fault)

@@ -12,3 +12,4 @@ pub mod Calls
 pub mod KeptLaws
 pub mod Resets
 pub mod Learning
+pub mod Scopes

@@ -27,7 +27,7 @@ use std::alloc::Global;
 // ---- inside a transaction
 
 /// Checks that the store is open: the end of an empty transaction doesn't show it.
-fn check_open<S: Alter>(tables: &mut Transaction<'_, S>) -> Result<(), TableFault>
+pub(crate) fn check_open<S: Alter>(tables: &mut Transaction<'_, S>) -> Result<(), TableFault>
     ensures same_reference { tables.new.conn.ghost_name ≡ tables.old.conn.ghost_name }
     ensures same { HasCleanDisk (state S.Store tables.new.conn.now)
         → OnOk result
@@ -44,7 +44,7 @@ fn check_open<S: Alter>(tables: &mut Transaction<'_, S>) -> Result<(), TableFaul
 }
 
 /// The entry with this name.
-fn find_in<S: Alter>(
+pub(crate) fn find_in<S: Alter>(
     alloc: Global,
     tables: &mut Transaction<'_, S>,
     name: &RecordName,
@@ -148,7 +148,7 @@ fn write_group_in<S: Alter>(
 }
 
 /// Puts an entry, by one statement: replaces the row with its key if there is one, otherwise adds a row.
-fn put_entry_in<S: Alter>(
+pub(crate) fn put_entry_in<S: Alter>(
     alloc: Global,
     tables: &mut Transaction<'_, S>,
     is_there: bool,

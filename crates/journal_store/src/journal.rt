@@ -1,11 +1,11 @@
 //! A journal in SQLite.
-ghost use Rattle.std.specs.Prelude.{◌≡◌, ◌⊎◌, IfErr, IfOk, IsTrue, OnOk};
+ghost use Rattle.std.specs.Prelude.{◌≡◌, ◌≤◌, ◌+◌, ◌⊎◌, IfErr, IfOk, IsTrue, OnErr, OnOk};
 ghost use Rattle.std.specs.Result.{is_ok};
 ghost use Rattle.sqlite.specs.Held.{state};
 ghost use Rattle.sqlite.specs.State.{HasCleanDisk, Survives};
 ghost use Rattle.journal_core.specs.Entries.{CanPutLearnt, CanPutRow, CanPutRows, IsListOf, with_learnt, with_row, with_rows};
 ghost use Rattle.journal_core.specs.Forgetting.{forgotten, learnt_count};
-ghost use Rattle.journal_core.specs.Stores.{HasRisen};
+ghost use Rattle.journal_core.specs.Stores.{CountsFault, CountsFaults, HasRisen};
 ghost use Rattle.journal_store.specs.Calls.{Reads, Writes, OpensAgain, call_result};
 ghost use Rattle.journal_store.specs.Connections.{ListsAll, ListsNone};
 ghost use Rattle.sql_tables.specs.Faults.{FailsFor as CallFailsFor, HasFailed};
@@ -13,12 +13,15 @@ ghost use Rattle.sql_tables.specs.Statements.{LeavesStore};
 ghost use Rattle.journal_store.specs.Kept.{IsFaithful, IsHonest, IsRefused, MayHold, kept_entries};
 ghost use Rattle.journal_store.specs.Opening.{Becomes, IsCause, IsUnfit, LeavesStanding, OpenFailsFor, OpeningFails, Stands, journal_fault, table_fault};
 ghost use Rattle.journal_store.specs.Resets.{AreListed};
+ghost use Rattle.journal_store.specs.Scopes.{after_reset, answer_of, reset_answer, reset_of};
+ghost use Rattle.journal_store.specs.declared.scopes.ResetResult.TheVariants.{Changed};
 
 use crate::batches::put_all;
 use crate::format::Journal as Tables;
 use crate::learning::learn;
 use crate::opening::{JournalOpenFault, check_tables, open_tables};
 use crate::resets::{learnt_count, reset_all};
+use crate::scopes::{ResetResult, Scope, reset_these};
 use crate::statements::TableFault;
 use crate::tables::list_entries;
 use journal_core::{Entry, Journal, ReopenJournal};
@@ -80,6 +83,27 @@ fn call_result(made: Result<(), TableFault>) -> Result<(), StoreFault>
     match made {
         Ok(()) => Ok(()),
         Err(fault) => Err(fault_of(fault)),
+    }
+}
+
+/// The result of a reset, for that of its statements. Counts the write, or the fault of the store.
+fn reset_concluded(
+    writes: &mut u64,
+    faults: &mut u64,
+    made: Result<ResetResult, TableFault>,
+) -> Result<ResetResult, StoreFault>
+    ensures is { result ≡ call_result made }
+    ensures faults { CountsFaults CountsFault faults.old faults.new result }
+    ensures risen { OnOk result (HasRisen writes.old writes.new) }
+    ensures written { writes.new ≤ writes.old + 1 }
+    ensures unwritten { OnErr result (writes.new ≡ writes.old) }
+{
+    match made {
+        Ok(answer) => {
+            *writes = writes.saturating_add(1);
+            Ok(answer)
+        }
+        Err(fault) => Err(counted(faults, fault_of(fault))),
     }
 }
 
@@ -247,20 +271,56 @@ impl<S: Alter> SqlJournal<S> {
         concluded(&mut self.writes, &mut self.faults, call_result(made))
     }
 
-    /// Forgets the confirmed revision and the id of each record, by one write: of all records or of none.
-    /// The rows stay. Returns how many entries that changes.
-    pub fn reset(&mut self) -> Result<usize, StoreFault>
+    /// Resets all records.
+    fn reset_every(&mut self) -> Result<ResetResult, StoreFault>
         ensures puts { Writes S.Store self.old self.new
             (forgotten (kept_entries S.Store self.old)) result }
-        ensures count { IsFaithful S.Store self.new
-            → IfOk result (λ count. count ≡ learnt_count (kept_entries S.Store self.old)) }
+        ensures answer { IsFaithful S.Store self.new
+            → IfOk result
+            (λ answer. answer ≡ Changed (learnt_count (kept_entries S.Store self.old))) }
         ensures open { IsHonest S.Store self.new → OnOk result (IsFaithful S.Store self.new) }
         ensures counted { OnOk result (HasRisen self.old.writes self.new.writes) }
         ensures shut { IsRefused self.old result }
     {
         let count = self.count_learnt()?;
         self.forget()?;
-        Ok(count)
+        Ok(ResetResult::Changed(count))
+    }
+
+    /// Resets these records, unless one of them isn't there.
+    fn reset_named(&mut self, names: &[RecordName]) -> Result<ResetResult, StoreFault>
+        ensures puts { Writes S.Store self.old self.new
+            (reset_of (kept_entries S.Store self.old) names.now) result }
+        ensures answer { IsFaithful S.Store self.new
+            → IfOk result
+            (λ answer. answer ≡ answer_of (kept_entries S.Store self.old) names.now) }
+        ensures open { IsHonest S.Store self.new → OnOk result (IsFaithful S.Store self.new) }
+        ensures counted { OnOk result (HasRisen self.old.writes self.new.writes) }
+        ensures shut { IsRefused self.old result }
+    {
+        if !self.is_usable {
+            return Err(refusal(&mut self.faults));
+        }
+        let made = reset_these(self.alloc, &mut self.conn, names);
+        reset_concluded(&mut self.writes, &mut self.faults, made)
+    }
+
+    /// Forgets the confirmed revision and the id of each of these records, by one write: of all of them or of
+    /// none. The rows stay. If one of them isn't in the journal, nothing changes.
+    pub fn reset(&mut self, scope: &Scope) -> Result<ResetResult, StoreFault>
+        ensures puts { Writes S.Store self.old self.new
+            (after_reset scope.now (kept_entries S.Store self.old)) result }
+        ensures answer { IsFaithful S.Store self.new
+            → IfOk result
+            (λ answer. answer ≡ reset_answer scope.now (kept_entries S.Store self.old)) }
+        ensures open { IsHonest S.Store self.new → OnOk result (IsFaithful S.Store self.new) }
+        ensures counted { OnOk result (HasRisen self.old.writes self.new.writes) }
+        ensures shut { IsRefused self.old result }
+    {
+        match scope {
+            Scope::All => self.reset_every(),
+            Scope::These(names) => self.reset_named(names.as_slice()),
+        }
     }
 }
 

@@ -22,7 +22,7 @@ use sqlite_value::value::ValueRef;
 // ---- what a reset changes
 
 /// Whether a revision of the record is confirmed, or its id is known.
-fn is_learnt(entry: &Entry) -> bool
+pub(crate) fn is_learnt(entry: &Entry) -> bool
     ensures { result ≡ is_learnt entry.now }
 {
     entry.confirmed != Revision::none() || entry.id.is_some()

@@ -114,7 +114,7 @@ fn carry_out<R: Runtime + Net + AllocGlobal, K: RowStorage, J: EntryStorage>(
         "map" => commands::map(rt, words),
         "serve" => commands::serve(rt, words, store),
         "push" => commands::push(rt, words, journal),
-        "reset" => commands::reset(rt, journal),
+        "reset" => commands::reset(rt, words, journal),
         "show" => commands::show(rt, store, journal),
         "simulate" => simulating::simulate(rt, words),
         _ => Err(CommandFault::Subcommand),

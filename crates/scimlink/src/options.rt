@@ -42,6 +42,8 @@ enum Rule {
 enum Value {
     /// An argument without the option's name.
     Place,
+    /// The same, as often as wanted, which the help calls so.
+    Places(&'static str),
     /// A text, which the help calls so.
     Text(&'static str),
     /// The same, as often as wanted.
@@ -215,7 +217,17 @@ static COMMANDS: &[CommandText] = &[
     CommandText {
         name: "reset",
         about: "forgets what the provider has shown, so that the next push asks about each record, and prints how many records had an id or a confirmed revision",
-        options: &[JOURNAL_THERE],
+        options: &[
+            JOURNAL_THERE,
+            OptionText {
+                name: "record",
+                value: Value::Places("RECORD"),
+                rule: Rule::Optional,
+                help: Help::Text(
+                    "a record to reset, user:LOGIN or group:NAME; without any, all records",
+                ),
+            },
+        ],
     },
     CommandText {
         name: "serve",
@@ -366,7 +378,7 @@ fn help_of<'a>(help: Help, events_help: &'a str) -> &'a str {
 /// The argument, with the option's name if it has one.
 fn taking<'a>(arg: Arg<'a>, option: OptionText) -> Arg<'a> {
     match option.value {
-        Value::Place => arg,
+        Value::Place | Value::Places(_) => arg,
         _ => arg.long(option.name),
     }
 }
@@ -374,7 +386,7 @@ fn taking<'a>(arg: Arg<'a>, option: OptionText) -> Arg<'a> {
 /// What the help calls the value.
 fn value_name(option: OptionText) -> &'static str {
     match option.value {
-        Value::Text(name) | Value::Texts(name) => name,
+        Value::Text(name) | Value::Texts(name) | Value::Places(name) => name,
         Value::Base => "URL",
         Value::Count => "N",
         Value::Seed => "S",
@@ -385,7 +397,8 @@ fn value_name(option: OptionText) -> &'static str {
 /// How the value is read.
 fn parser_of(value: Value) -> ValueParser<'static> {
     match value {
-        Value::Place | Value::Text(_) | Value::Texts(_) | Value::Base => ValueParser::String,
+        Value::Place | Value::Places(_) | Value::Text(_) | Value::Texts(_) => ValueParser::String,
+        Value::Base => ValueParser::String,
         Value::Count => value_parser!(u32),
         Value::Seed => value_parser!(u64),
         Value::Nothing => ValueParser::Bool,
@@ -395,7 +408,7 @@ fn parser_of(value: Value) -> ValueParser<'static> {
 fn action_of(value: Value) -> ArgAction {
     match value {
         Value::Nothing => ArgAction::SetTrue,
-        Value::Texts(_) => ArgAction::Append,
+        Value::Texts(_) | Value::Places(_) => ArgAction::Append,
         _ => ArgAction::Set,
     }
 }

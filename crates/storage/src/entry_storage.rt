@@ -2,14 +2,14 @@
 ghost use Rattle.std.specs.Prelude.{◌≡◌, ◌⊎◌, IfOk, MatchOption, OnOk};
 ghost use Rattle.journal_core.specs.Calls.{Writes};
 ghost use Rattle.journal_core.specs.Entries.{EntryMap};
-ghost use Rattle.journal_core.specs.Forgetting.{forgotten, learnt_count};
 ghost use Rattle.journal_core.specs.Stores.{CountsFault};
+ghost use Rattle.journal_store.specs.Scopes.{after_reset, reset_answer};
 ghost use Rattle.storage.specs.JournalOpened.{IsOpenedAt};
 
 use crate::looking::LookFault;
 use crate::reason::DatabaseReason;
 use journal_core::Journal;
-use journal_store::JournalOpenFault;
+use journal_store::{JournalOpenFault, ResetResult, Scope};
 use scim_key::StoreFault;
 
 /// The entries of a connector, opened where they are kept.
@@ -19,13 +19,13 @@ pub trait StoredEntries: Journal {
 
     ghost is_closed: { Self → Self.Left → Type 0 };
 
-    /// Forgets the confirmed revision and the id of each record, by one write: of all records or of none.
-    /// The rows stay. Returns how many entries that changes.
-    fn reset(&mut self) -> Result<usize, StoreFault>
+    /// Forgets the confirmed revision and the id of each of these records, by one write: of all of them or of none. The
+    /// rows stay. If one of them isn't in the journal, nothing changes.
+    fn reset(&mut self, scope: &Scope) -> Result<ResetResult, StoreFault>
         ensures puts { Writes Self.Journal CountsFault self.old self.new
-            (forgotten (Self.entries self.old)) result }
-        ensures count { Self.is_faithful self.new
-            → IfOk result (λ count. count ≡ learnt_count (Self.entries self.old)) }
+            (after_reset scope.now (Self.entries self.old)) result }
+        ensures answer { Self.is_faithful self.new
+            → IfOk result (λ answer. answer ≡ reset_answer scope.now (Self.entries self.old)) }
         ensures open { Self.is_honest self.new → OnOk result (Self.is_faithful self.new) };
 
     /// Closes the entries. What was committed stays, even if closing fails.

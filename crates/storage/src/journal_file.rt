@@ -15,7 +15,7 @@ use crate::looking::{LookFault, seen_in};
 use crate::places::IfMissing;
 use crate::reason::DatabaseReason;
 use journal_core::Journal;
-use journal_store::{JournalOpenFault, SqlJournal, is_older};
+use journal_store::{JournalOpenFault, ResetResult, Scope, SqlJournal, is_older};
 use scim_key::StoreFault;
 use sqlite::{Alter, Connection, FileStore};
 use sqlite_disk::{Disk, Files};
@@ -131,8 +131,8 @@ where
 
     ghost is_closed = { λ s left. ⟦<Connection<S> as Close>⟧.is_closed s.conn left };
 
-    fn reset(&mut self) -> Result<usize, StoreFault> {
-        SqlJournal::reset(self)
+    fn reset(&mut self, scope: &Scope) -> Result<ResetResult, StoreFault> {
+        SqlJournal::reset(self, scope)
     }
 
     fn close(self) -> Self::Left {
