@@ -1,5 +1,4 @@
 pub mod ImageLemmas
 pub mod RunLemmas
-mod LimitLemmas
 mod StoredLemmas
 pub mod AmongLemmas

@@ -12,3 +12,4 @@ mod AbreastLemmas
 pub mod AskedLemmas
 pub mod InTurnLemmas
 mod PlanLemmas
+mod LeaverLemmas
