@@ -5,10 +5,10 @@
 
 The journal has all users confirmed, so no push sends anything. Each round runs all of them in turn, over the same
 journal, in the reverse of the last round's order. It prints the median time, processor time and peak memory of each,
-and the median, least and greatest ratio of the snapshot to the other. A snapshot needs --most-leavers, which has its
-own cost, so a plain push with that option is measured too. Files are in FOLDER, else on /dev/shm. The status is 1 if a
-push doesn't print that all are confirmed, or if the snapshot takes more than 1.3 times the time or the memory of the
-plain push.
+and the median, least and greatest ratio of each to the plain push. A snapshot needs --most-leavers, which has its own
+cost, so a plain push with that option is measured too. Files are in FOLDER, else on /dev/shm. The status is 1 if a push
+doesn't print that all are confirmed, or if the snapshot takes more than 1.3 times the time or the memory of the plain
+push.
 """
 import argparse
 import os
@@ -31,9 +31,9 @@ COLUMNS = "login,{}number,given,family,mail,status\n"
 THRESHOLD = ["--most-leavers", "0"]
 # What is measured: its name in a line, its file, and its options
 WORKS = {
-    "snapshot": ("unchanged snapshot", "export", ["--snapshot", *THRESHOLD]),
     "plain": ("plain push", "revisions", []),
     "threshold": ("plain push with --most-leavers", "revisions", THRESHOLD),
+    "snapshot": ("unchanged snapshot", "export", ["--snapshot", *THRESHOLD]),
 }
 
 
@@ -92,14 +92,14 @@ class Bench:
 
 
 def show(what, unit, found):
-    """Prints the medians of the rounds: the ratio to a plain push."""
+    """Prints the medians of the rounds, and the ratios to a plain push: the snapshot's is the result."""
     rounds = [{name: it[name][what] for name in WORKS} for it in found]
-    ratios = {name: medians(rounds, "snapshot", name) for name in WORKS}
+    ratios = {name: medians(rounds, name, "plain") for name in WORKS}
     for name, (spelled, _, _) in WORKS.items():
         middle, (ratio, least, greatest) = statistics.median(it[name] for it in rounds), ratios[name]
-        beside = "" if name == "snapshot" else f", ratio {ratio:.2f} ({least:.2f} to {greatest:.2f})"
+        beside = "" if name == "plain" else f", ratio {ratio:.2f} ({least:.2f} to {greatest:.2f})"
         print(f"{what}, {spelled}: {middle:.3g} {unit}{beside}", flush=True)
-    return ratios["plain"][0]
+    return ratios["snapshot"][0]
 
 
 def main():

@@ -57,7 +57,7 @@ module _ {L I O : Type 0} (waiting : L → Option (List (I × O))) (remaining : 
 
 -- the records were carried as the arguments want it
 module _ {I O J L : Type 0} (remaining : I → Option (List ℕ)) (contents : O → Option (List ℕ)) (g : Ghosts J) (h : Ghosts MemoryRecord) (finds : EntryMap → Type 0) (is_closed : J → L → Type 0) (manner : Manner) (found : Found) (job : Job) where
-  pub pushed : (ended : Result Status CommandFault) → IsJob found job → PushesOver remaining contents g h finds is_closed manner.delivery job manner.most_leavers ended
+  pub pushed : (ended : Result Status CommandFault) → IsJob found job → PushesOver remaining contents g finds is_closed manner.delivery job manner.most_leavers ended
       → IfOk ended (IsPushed remaining contents g h finds is_closed manner found)
   pushed (Ok status) is pushes = (job, is, pushes)
   pushed (Err why) is pushes = tt

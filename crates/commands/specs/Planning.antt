@@ -92,7 +92,7 @@ module _ {I O J L : Type 0} (remaining : I → Option (List ℕ)) (contents : O 
   abbrev pub IsPushed : (finds : EntryMap → Type 0) → (is_closed : J → L → Type 0) → Manner → Found → Status → Type 0
   IsPushed finds is_closed manner found status =
       (job : Job) × IsJob found job
-      × PushesOver remaining contents g h finds is_closed manner.delivery job manner.most_leavers (Ok status)
+      × PushesOver remaining contents g finds is_closed manner.delivery job manner.most_leavers (Ok status)
 
   -- by whether a plan is wanted
   abbrev pub EndsAs : (planned : Bool) → (finds : EntryMap → Type 0) → (is_closed : J → L → Type 0) → Manner → Found

@@ -9,7 +9,7 @@ use crate::status::CommandFault;
 use crate::words::{base, groups, users};
 use clap::ArgMatches;
 use connector_core::Connector;
-use journal_core::MemoryJournal;
+use journal_core::{Journal, MemoryJournal};
 use provisioning::{Layouts, ReadFiles, Sources, Today, read_sources};
 use scim_client::ScimService;
 use std::alloc::Global;
@@ -40,23 +40,20 @@ impl<'a> Job<'a> {
     }
 
     /// What numbers the files, if they are snapshots: this connector.
-    fn today<'b>(&'b self, copy: &'b Connector<MemoryJournal>) -> Option<Today<'b>>
-        ensures { numbering_in result ≡ numbering_of self.now copy.now.book }
+    fn today<'b, J: Journal>(&'b self, connector: &'b Connector<J>) -> Option<Today<'b, J>>
+        ensures { numbering_in result ≡ numbering_of self.now connector.now.book }
     {
         match &self.layouts {
-            Some(layouts) => Some(Today {
-                layouts,
-                connector: copy,
-            }),
+            Some(layouts) => Some(Today { layouts, connector }),
             None => None,
         }
     }
 
     /// Reads the records of the files: of snapshots, if something numbers them.
-    pub fn read<R: ReadFiles + Eprint + AllocGlobal>(
+    pub fn read<R: ReadFiles + Eprint + AllocGlobal, J: Journal>(
         &self,
         rt: &R,
-        today: Option<Today<'_>>,
+        today: Option<Today<'_, J>>,
     ) -> Result<Sources, CommandFault>
         ensures { ReadsJob R.gives rt.now (numbering_in today.entry) self.now result }
     {
@@ -70,17 +67,18 @@ impl<'a> Job<'a> {
     ) -> Result<Sources, CommandFault>
         ensures { ReadsFiles None self.now result }
     {
-        self.read(rt, None)
+        let today: Option<Today<'_, MemoryJournal>> = None;
+        self.read(rt, today)
     }
 
-    /// The same of snapshots, if the files are some: this connector over a copy of the journal's entries numbers them.
-    pub(crate) fn read_over<R: Runtime + AllocGlobal>(
+    /// The same of snapshots, if the files are some: this connector numbers them.
+    pub(crate) fn read_over<R: Runtime + AllocGlobal, J: Journal>(
         &self,
         rt: &R,
-        copy: &Connector<MemoryJournal>,
+        connector: &Connector<J>,
     ) -> Result<Sources, CommandFault>
-        ensures { ReadsFiles (numbering_of self.now copy.now.book) self.now result }
+        ensures { ReadsFiles (numbering_of self.now connector.now.book) self.now result }
     {
-        self.read(rt, self.today(copy))
+        self.read(rt, self.today(connector))
     }
 }

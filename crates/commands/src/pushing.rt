@@ -2,7 +2,7 @@
 ghost use Rattle.std.specs.Prelude.{IfOk};
 ghost use Rattle.clap.specs.Matches.{found_of};
 ghost use Rattle.commands.specs.Planning.{IsPlanned, IsPushed, IsPushedAt};
-ghost use Rattle.commands.specs.Limits.{PushesEntries, PushesOver, PushesSources};
+ghost use Rattle.commands.specs.Limits.{PushesApproved, PushesOver};
 ghost use Rattle.commands.specs.Running.{CarriesAs, GivesConnector, Pushes, PushesKnown};
 
 use crate::endings::pushed_status;
@@ -88,61 +88,32 @@ pub fn push_over<'a, R: Runtime + Net + AllocGlobal, J: EntryStorage>(
 ) -> Result<Status, CommandFault>
     ensures { PushesOver ⟦<TimedHandle<'a, R::Stream, R> as Read>⟧.remaining
         ⟦<TimedHandle<'a, R::Stream, R> as Write>⟧.contents J.Entries.Journal
-        ⟦<MemoryJournal as Journal>⟧ (J.finds storage.now) J.Entries.is_closed delivery job.now most
-        result }
+        (J.finds storage.now) J.Entries.is_closed delivery job.now most result }
 {
-    let mut entries = storage.open()?;
-    match approved(rt, &mut entries, job, most) {
-        Ok(Some(sources)) => push_entries(rt, entries, job, &sources, to, delivery),
-        Ok(None) => {
-            entries.close();
-            Ok(Status::Refused)
-        }
-        Err(fault) => {
-            entries.close();
-            Err(fault)
-        }
-    }
-}
-
-/// Carries the records of files from a journal, and closes it.
-fn push_entries<'a, R: Runtime + Net + AllocGlobal, E: StoredEntries>(
-    rt: &'a R,
-    entries: E,
-    job: &Job<'_>,
-    sources: &Sources,
-    to: &str,
-    delivery: Delivery,
-) -> Result<Status, CommandFault>
-    ensures { PushesEntries ⟦<TimedHandle<'a, R::Stream, R> as Read>⟧.remaining
-        ⟦<TimedHandle<'a, R::Stream, R> as Write>⟧.contents E.Journal E.is_closed delivery
-        job.now.service sources.now entries result }
-{
-    match Connector::open(rt.alloc(), entries) {
-        Ok(connector) => push_sources(rt, connector, job, sources, to, delivery),
-        Err((fault, entries)) => {
-            entries.close();
-            Err(CommandFault::from(RunFault::from(fault)))
-        }
-    }
-}
-
-/// Carries the records of files, and closes the journal of the connector.
-fn push_sources<'a, R: Runtime + Net + AllocGlobal, E: StoredEntries>(
-    rt: &'a R,
-    mut connector: Connector<E>,
-    job: &Job<'_>,
-    sources: &Sources,
-    to: &str,
-    delivery: Delivery,
-) -> Result<Status, CommandFault>
-    ensures { PushesSources ⟦<TimedHandle<'a, R::Stream, R> as Read>⟧.remaining
-        ⟦<TimedHandle<'a, R::Stream, R> as Write>⟧.contents E.Journal E.is_closed delivery
-        job.now.service sources.now connector result }
-{
-    let ended = push_known(rt, &mut connector, job, sources, to, delivery);
+    let mut connector = open_connector(rt.alloc(), storage)?;
+    let ended = push_approved(rt, &mut connector, job, to, delivery, most);
     close(connector);
     ended
+}
+
+/// Reads the files, and carries their records if they keep to the limit.
+fn push_approved<'a, R: Runtime + Net + AllocGlobal, J: Journal>(
+    rt: &'a R,
+    connector: &mut Connector<J>,
+    job: &Job<'_>,
+    to: &str,
+    delivery: Delivery,
+    most: Option<u32>,
+) -> Result<Status, CommandFault>
+    ensures { PushesApproved ⟦<TimedHandle<'a, R::Stream, R> as Read>⟧.remaining
+        ⟦<TimedHandle<'a, R::Stream, R> as Write>⟧.contents J.Journal delivery job.now most
+        connector.old connector.new result }
+{
+    match approved(rt, connector, job, most) {
+        Ok(Some(sources)) => push_known(rt, connector, job, &sources, to, delivery),
+        Ok(None) => Ok(Status::Refused),
+        Err(fault) => Err(fault),
+    }
 }
 
 /// Closes the journal of a connector.

@@ -13,3 +13,4 @@ pub mod AskedLemmas
 pub mod InTurnLemmas
 mod CompareLemmas
 mod PlanLemmas
+mod LeaverLemmas

@@ -32,7 +32,7 @@ drop_here xs i x less is = rw (add-one, drop-cons xs i x less, ← is) refl
 
 -- ---- rows
 
-rows_next : (records : List Source) (i : ℕ) (found : Source) → i < length records → found ≡ get_or records i found → rows_in (take (i + 1) records) ≡ rows_in (take i records) ++ rows_in (found ∷ [])
+pub rows_next : (records : List Source) (i : ℕ) (found : Source) → i < length records → found ≡ get_or records i found → rows_in (take (i + 1) records) ≡ rows_in (take i records) ++ rows_in (found ∷ [])
 rows_next records i found less is = ap rows_in (take_more records i found less ∙ ap (λ (x : Source). take i records ++ x ∷ []) (sym is)) ∙ filter_map-append result_ok (take i records) (found ∷ [])
 
 -- the rows so far, and one more

@@ -31,10 +31,10 @@ pub record Numbering : Type 0 where
   pub layouts : Layouts
   pub book : BookMap
 
-abbrev pub view_of : Today → Numbering
+abbrev pub view_of : {J : Type 0} → Today J → Numbering
 view_of today = record { layouts = today.layouts.now; book = today.connector.now.book }
 
-abbrev pub numbering_in : Option Today → Option Numbering
+abbrev pub numbering_in : {J : Type 0} → Option (Today J) → Option Numbering
 numbering_in today = option_map view_of today
 
 abbrev pub layout_of : Layouts → Kind → Layout

@@ -1,68 +1,185 @@
 //! How many users a run would switch off.
-ghost use Rattle.std.specs.Prelude.{◌≡◌, IfOk, None};
+ghost use Rattle.std.specs.Prelude.{◌≡◌, ◌∷◌, [], IfOk, OnOk};
 ghost use Rattle.std.specs.List.{count_by};
 ghost use Rattle.std.specs.Option.{option_copied};
-ghost use Rattle.connector_core.specs.Maps.{book_of};
-ghost use Rattle.connector_core.specs.State.{IsOpened};
-ghost use Rattle.journal_core.specs.Calls.{Reads};
-ghost use Rattle.provisioning.specs.Leavers.{CountsIn, NoFewer, has_left, is_in_use, is_switched_off, names_in_use};
+ghost use Rattle.connector_core.specs.Maps.{BookMap, book_of};
+ghost use Rattle.provisioning.specs.Leavers.{GoesAhead, IsAhead, TakesSources, group_rows, has_left, is_in_use, is_later, is_leaver, is_switched_off, last_in, last_of, leavers_by, names_in_use};
+ghost use Rattle.provisioning.specs.Offering.{rows_in};
 
-use crate::dry_runs::{fault_of, open_copy};
-use crate::faults::RunFault;
-use crate::offering::{Hear, Judged, offer_all};
-use crate::sources::Sources;
+use crate::sources::{Source, Sources};
 use connector_core::Connector;
-use journal_core::{Journal, MemoryJournal};
-use scim_key::{RecordName, Revision};
-use source_csv::Row;
+use journal_core::Journal;
+use scim_key::{Kind, RecordName, Revision};
+use source_csv::{Row, RowFault};
 use std::alloc::{AllocError, Global};
-use std::io;
+use std::collections::BTreeMap;
 
-/// Reports nothing.
+/// What the wanted row of a record says of it.
+#[derive(Clone, Copy)]
+pub(crate) struct Last {
+    revision: Revision,
+    /// Whether the row is of a user who left.
+    has_left: bool,
+}
+
+impl Last {
+    /// What this row says.
+    fn of(row: &Row) -> Last
+        ensures { result ≡ last_of row.now }
+    {
+        Last {
+            revision: row.revision(),
+            has_left: has_left(Some(row)),
+        }
+    }
+}
+
+/// What rows of files say of the records that a connector has, if the rows are later than the connector's.
 #[derive(Drop)]
-struct Silent;
+pub(crate) struct Ahead {
+    later: BTreeMap<RecordName, Last>,
+}
 
-impl Hear for Silent {
-    ghost heard = { λ _. None };
+impl Ahead {
+    /// No rows.
+    fn new(alloc: Global) -> Ahead
+        ensures { (book : BookMap) → IsAhead book result book }
+    {
+        Ahead {
+            later: BTreeMap::new(alloc),
+        }
+    }
 
-    fn hear(&mut self, _: Judged) -> io::Result<()> {
+    /// What the wanted row of a record says after these rows, if the connector has the record.
+    fn last<J: Journal>(&self, connector: &Connector<J>, name: &RecordName) -> Option<Last>
+        ensures { result ≡ last_in self.now connector.now.book name.now }
+    {
+        match self.later.get(name) {
+            Some(last) => Some(*last),
+            None => match connector.row(name) {
+                Some(row) => Some(Last::of(row)),
+                None => None,
+            },
+        }
+    }
+
+    /// Whether this row is later than the wanted row of its record, and the connector has the record.
+    fn is_later<J: Journal>(&self, connector: &Connector<J>, name: &RecordName, row: &Row) -> bool
+        ensures { result ≡ is_later (last_in self.now connector.now.book name.now) row.now }
+    {
+        match self.last(connector, name) {
+            Some(last) => last.revision.is_before(row.revision()),
+            None => false,
+        }
+    }
+
+    /// Takes one more row.
+    fn take<J: Journal>(
+        &mut self,
+        alloc: Global,
+        connector: &Connector<J>,
+        row: &Row,
+    ) -> Result<(), AllocError>
+        ensures { OnOk result (GoesAhead connector.now.book self.old self.new (row.now ∷ [])) }
+    {
+        let name = row.record_name(alloc)?;
+        if self.is_later(connector, &name, row) {
+            self.later.insert(name, Last::of(row))?;
+            return Ok(());
+        }
         Ok(())
     }
-}
 
-/// A connector over a copy of the journal's entries. The journal is only read.
-pub fn copy_of<J: Journal>(
-    alloc: Global,
-    journal: &mut J,
-) -> Result<Connector<MemoryJournal>, RunFault>
-    ensures copies { IfOk result
-        (λ copy. J.is_faithful journal.new → IsOpened (J.entries journal.old) copy.book) }
-    ensures reads { Reads J.Journal NoFewer journal.old journal.new result }
-{
-    match journal.load() {
-        Ok(entries) => open_copy(alloc, entries),
-        Err(fault) => Err(fault_of(fault)),
+    /// Takes the row of a record, if the record is one.
+    fn take_record<J: Journal>(
+        &mut self,
+        alloc: Global,
+        connector: &Connector<J>,
+        said: &Result<Row, RowFault>,
+    ) -> Result<(), AllocError>
+        ensures { OnOk result
+            (GoesAhead connector.now.book self.old self.new (rows_in (said.now ∷ []))) }
+    {
+        match said {
+            Ok(row) => self.take(alloc, connector, row),
+            Err(_) => Ok(()),
+        }
+    }
+
+    /// Takes the rows among these records.
+    fn take_all<J: Journal>(
+        &mut self,
+        alloc: Global,
+        connector: &Connector<J>,
+        records: &[Result<Row, RowFault>],
+    ) -> Result<(), AllocError>
+        ensures { OnOk result (GoesAhead connector.now.book self.old self.new (rows_in records.now)) }
+    {
+        for record in records {
+            self.take_record(alloc, connector, record)?;
+        }
+        Ok(())
+    }
+
+    /// Takes the rows of a file of groups, if there is one.
+    fn take_groups<J: Journal>(
+        &mut self,
+        alloc: Global,
+        connector: &Connector<J>,
+        groups: &Option<Source>,
+    ) -> Result<(), AllocError>
+        ensures { OnOk result
+            (GoesAhead connector.now.book self.old self.new (group_rows groups.now)) }
+    {
+        match groups {
+            Some(groups) => self.take_all(alloc, connector, groups.records()),
+            None => Ok(()),
+        }
+    }
+
+    /// Whether these rows switch off a record: a revision of it is confirmed, it isn't known to be off, and its wanted
+    /// row says that the user left, at a revision that isn't confirmed.
+    fn is_leaver<J: Journal>(&self, connector: &Connector<J>, name: &RecordName) -> bool
+        ensures { result ≡ is_leaver self.now connector.now.book name.now }
+    {
+        match self.last(connector, name) {
+            Some(last) => {
+                last.has_left
+                    && last.revision != connector.confirmed(name)
+                    && is_in_use(connector, name)
+            }
+            None => false,
+        }
     }
 }
 
-/// How many users a run over these files would switch off, by a connector over a copy of the journal's entries, which
-/// gets the rows. A revision is confirmed of each of these users, they aren't known to be off, and the row that is
-/// wanted after the files says that they left and isn't confirmed.
+/// How many of these records the rows switch off.
+fn leavers_among<J: Journal>(ahead: &Ahead, connector: &Connector<J>, names: &[RecordName]) -> usize
+    ensures { result ≡ count_by (is_leaver ahead.now connector.now.book) names.now }
+{
+    names
+        .iter()
+        .filter(|name| ahead.is_leaver(connector, name))
+        .count()
+}
+
+/// How many users a run over these files would switch off. A revision is confirmed of each of these users, they aren't
+/// known to be off, and the row that is wanted after the files says that they left and isn't confirmed.
 pub fn count_leavers<J: Journal>(
     alloc: Global,
-    copy: &mut Connector<J>,
+    connector: &Connector<J>,
     sources: &Sources,
-) -> Result<usize, RunFault>
-    ensures { IfOk result (CountsIn J.Journal sources.now copy.old copy.new) }
+) -> Result<usize, AllocError>
+    ensures { IfOk result (λ count. count ≡ leavers_by connector.now.book sources.now) }
 {
-    let names = names_in_use(copy)?;
-    match offer_all(alloc, copy, sources, &mut Silent) {
-        Ok(_is_taken) => Ok(switched_off(copy, names.as_slice())),
-        Err(fault) => Err(fault),
-    }
+    let mut ahead = Ahead::new(alloc);
+    ahead.take_all(alloc, connector, sources.users.records())?;
+    ahead.take_groups(alloc, connector, &sources.groups)?;
+    let names = connector.names()?;
+    Ok(leavers_among(&ahead, connector, names.as_slice()))
 }
 
-/// The records of which a revision is confirmed, and that aren't known to be off.
+/// The users of whom a revision is confirmed, and who aren't known to be off.
 pub(crate) fn names_in_use<J: Journal>(
     connector: &Connector<J>,
 ) -> Result<Vec<RecordName>, AllocError>
@@ -73,12 +190,13 @@ pub(crate) fn names_in_use<J: Journal>(
     Ok(names)
 }
 
-/// Whether a revision of the record is confirmed, and it isn't known to be off.
+/// Whether it is a user of whom a revision is confirmed, and who isn't known to be off.
 fn is_in_use<J: Journal>(connector: &Connector<J>, name: &RecordName) -> bool
     ensures { result ≡ is_in_use (book_of connector.now.book) name.now }
 {
     let confirmed = connector.confirmed(name);
-    confirmed != Revision::none()
+    name.kind == Kind::User
+        && confirmed != Revision::none()
         && !(has_left(connector.row(name)) && connector.wanted(name) == confirmed)
 }
 
@@ -108,3 +226,8 @@ fn has_left(row: Option<&Row>) -> bool
         Some(Row::Group(_)) | None => false,
     }
 }
+
+/// A run that has offered the rows of its files has the book by which `count_leavers` counts.
+pub fn sources_are_taken<J: Journal>()
+    ensures { TakesSources J.Journal }
+{}

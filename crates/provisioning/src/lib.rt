@@ -47,7 +47,7 @@ pub use dry_runs::open_copy;
 pub use explaining::Failed;
 pub use faults::{RecordFault, RunFault, open_fault, unwritten};
 pub use files::ReadFiles;
-pub use leavers::{copy_of, count_leavers};
+pub use leavers::{count_leavers, sources_are_taken};
 pub use lines::{Lines, RowReports, report_older};
 pub use offering::{Hear, Judged, offer_all};
 pub use older::OlderRow;

@@ -9,6 +9,7 @@ ghost use Rattle.provisioning.specs.Today.{numbering_in};
 use crate::doubts::{tell_ignored, tell_unsure};
 use crate::files::ReadFiles;
 use crate::today::{Today, read_today};
+use journal_core::Journal;
 use scim_key::Kind;
 use snapshots::Unsure;
 use source_csv::{Multiline, Row, RowFault, SourceFault, SourceFile, SourceRows, read_file};
@@ -127,11 +128,11 @@ fn read_revisions(alloc: Global, kind: Kind, bytes: &[u8]) -> Result<Source, All
 }
 
 /// Reads a file of this type from these bytes: a snapshot, if something numbers it.
-pub fn read_source(
+pub fn read_source<J: Journal>(
     alloc: Global,
     kind: Kind,
     bytes: &[u8],
-    today: Option<Today<'_>>,
+    today: Option<Today<'_, J>>,
 ) -> Result<Source, AllocError>
     ensures { IfOk result (SaysAs (numbering_in today.entry) kind bytes.now) }
 {
@@ -144,11 +145,11 @@ pub fn read_source(
 /// Reads the files, the one of users first: snapshots, if something numbers them. It reports on standard error which
 /// records are rejected, and which have a field over several lines; and of a snapshot which columns are ignored, and
 /// why nobody who is absent is switched off, if so.
-pub fn read_sources<R: ReadFiles + Eprint + AllocGlobal>(
+pub fn read_sources<R: ReadFiles + Eprint + AllocGlobal, J: Journal>(
     rt: &R,
     users: &str,
     groups: Option<&str>,
-    today: Option<Today<'_>>,
+    today: Option<Today<'_, J>>,
 ) -> Result<Sources, UnreadFile>
     ensures { ReadsSources R.gives rt.now (numbering_in today.entry) users.now (path_in groups.entry)
         result }
@@ -159,10 +160,10 @@ pub fn read_sources<R: ReadFiles + Eprint + AllocGlobal>(
 }
 
 /// Reads the file of groups, if there is one.
-fn groups_in<R: ReadFiles + Eprint + AllocGlobal>(
+fn groups_in<R: ReadFiles + Eprint + AllocGlobal, J: Journal>(
     rt: &R,
     groups: Option<&str>,
-    today: Option<Today<'_>>,
+    today: Option<Today<'_, J>>,
 ) -> Result<Option<Source>, UnreadFile>
     ensures { MatchResult result
         (IsReadIfNamed R.gives rt.now (numbering_in today.entry) Group (path_in groups.entry))
@@ -178,11 +179,11 @@ fn groups_in<R: ReadFiles + Eprint + AllocGlobal>(
 }
 
 /// Reads a file.
-fn source_in<R: ReadFiles + Eprint + AllocGlobal>(
+fn source_in<R: ReadFiles + Eprint + AllocGlobal, J: Journal>(
     rt: &R,
     kind: Kind,
     path: &str,
-    today: Option<Today<'_>>,
+    today: Option<Today<'_, J>>,
 ) -> Result<Source, UnreadFile>
     ensures { MatchResult result (IsReadFrom R.gives rt.now (numbering_in today.entry) kind path.now)
         (FailsAt R.gives rt.now kind path.now) }
@@ -194,11 +195,11 @@ fn source_in<R: ReadFiles + Eprint + AllocGlobal>(
 }
 
 /// Reads a file, and reports what it rejects.
-fn told_source<R: ReadFiles + Eprint + AllocGlobal>(
+fn told_source<R: ReadFiles + Eprint + AllocGlobal, J: Journal>(
     rt: &R,
     kind: Kind,
     path: &str,
-    today: Option<Today<'_>>,
+    today: Option<Today<'_, J>>,
 ) -> io::Result<Source>
     ensures { MatchResult result (IsReadFrom R.gives rt.now (numbering_in today.entry) kind path.now)
         (FailsBy R.gives rt.now path.now) }

@@ -4,7 +4,7 @@ ghost use Rattle.provisioning.specs.Today.{IsNumbered, SaysToday, layout_of, vie
 
 use crate::sources::{Source, without_rows};
 use connector_core::Connector;
-use journal_core::MemoryJournal;
+use journal_core::Journal;
 use scim_key::Kind;
 use snapshots::{Numbered, number};
 use source_csv::{Layout, SnapshotFile, SourceFault, SourceRows, read_snapshot};
@@ -30,19 +30,19 @@ impl Layouts {
 }
 
 /// What numbers the snapshots of a run.
-#[derive(Clone, Copy)]
-pub struct Today<'a> {
+#[derive_where(Clone, Copy)]
+pub struct Today<'a, J: Journal> {
     pub layouts: &'a Layouts,
     /// A connector over the journal's entries: its wanted rows say which revision comes next, and who is absent.
-    pub connector: &'a Connector<MemoryJournal>,
+    pub connector: &'a Connector<J>,
 }
 
 /// Reads a snapshot of this type from these bytes, and numbers its records.
-pub(crate) fn read_today(
+pub(crate) fn read_today<J: Journal>(
     alloc: Global,
     kind: Kind,
     bytes: &[u8],
-    today: Today<'_>,
+    today: Today<'_, J>,
 ) -> Result<Source, AllocError>
     ensures { IfOk result (SaysToday (view_of today.entry) kind bytes.now) }
 {
@@ -54,11 +54,11 @@ pub(crate) fn read_today(
 }
 
 /// What a snapshot offers. A field over several lines may have swallowed records, for want of a quote.
-fn numbered(
+fn numbered<J: Journal>(
     alloc: Global,
     kind: Kind,
     file: SnapshotFile,
-    connector: &Connector<MemoryJournal>,
+    connector: &Connector<J>,
 ) -> Result<Source, AllocError>
     ensures { IfOk result (IsNumbered kind file connector.now.book) }
 {

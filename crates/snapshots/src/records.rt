@@ -27,7 +27,7 @@ fn number_said<J: Journal>(
     if tally.count(&name) > 1 {
         return Ok(Err(repeated(place)));
     }
-    Ok(at_place(place, number_row(connector.row(&name), row)?))
+    Ok(at_place(place, number_row(connector.row(&name), row)))
 }
 
 /// Whether another record of the snapshot has the same name as the rejected record.

@@ -1,5 +1,5 @@
 //! The next row of a record.
-ghost use Rattle.std.specs.Prelude.{◌≡◌, IfOk};
+ghost use Rattle.std.specs.Prelude.{◌≡◌};
 ghost use Rattle.std.specs.Option.{option_copied};
 ghost use Rattle.scim_key.specs.Revisions.{IsRevision, next_revision};
 ghost use Rattle.source_csv.specs.Files.{at_place as result_at};
@@ -7,7 +7,6 @@ ghost use Rattle.snapshots.specs.Snapshots.{numbered_row, row_at};
 
 use scim_key::Revision;
 use source_csv::{Row, RowCode, RowFault};
-use std::alloc::AllocError;
 
 /// What is read at a place: a row, or a fault with the place.
 pub(crate) fn at_place(place: usize, row: Result<Row, RowCode>) -> Result<Row, RowFault>
@@ -30,13 +29,13 @@ pub(crate) fn row_after(wanted: Revision, row: Row) -> Result<Row, RowCode>
 }
 
 /// A row of the file, by the wanted row of its record.
-pub(crate) fn number_row(wanted: Option<&Row>, row: Row) -> Result<Result<Row, RowCode>, AllocError>
-    ensures { IfOk result (λ numbered. numbered ≡ numbered_row (option_copied wanted.entry) row) }
+pub(crate) fn number_row(wanted: Option<&Row>, row: Row) -> Result<Row, RowCode>
+    ensures { result ≡ numbered_row (option_copied wanted.entry) row }
 {
     match wanted {
-        None => Ok(Ok(row)),
-        Some(wanted) if row.says_the_same(wanted) => Ok(Ok(wanted.clone()?)),
-        Some(wanted) => Ok(row_after(wanted.revision(), row)),
+        None => Ok(row),
+        Some(wanted) if row.says_the_same(wanted) => Ok(row.at_revision(wanted.revision())),
+        Some(wanted) => row_after(wanted.revision(), row),
     }
 }
 

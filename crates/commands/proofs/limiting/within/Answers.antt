@@ -1,25 +1,15 @@
-use Rattle.std.proofs.Common.{◌≡◌, true, false, Some, refl, rules}
-use Rattle.commands.specs.Limits.{is_excess}
+use Rattle.std.proofs.Common.{◌≡◌, ◌∙◌, ℕ, true, false, Some, None, refl, subst, sym}
+use Rattle.commands.specs.Limits.{if_within, is_excess}
 use Rattle.commands.proofs.limiting.within.Goals as goal
 
-pub returns-in-Ok : goal.returns-in-Ok
-returns-in-Ok g c =
-    let excess : is_excess c.in-Ok.count (Some c.args.most) ≡ true = search rules in
-    record {
-      sources = c.in_ok-sources.sources;
-      count = c.in-Ok.count;
-      reads = c.in_ok-sources.ensures;
-      counts = c.in-Ok.ensures;
-      kept_is = rw excess refl;
-    }
+pub returns-then-tell_excess : goal.returns-then-tell_excess
+returns-then-tell_excess g c =
+    let sources = c.in_ok-sources.sources in
+    let excess : is_excess c.in_ok-count.count (Some c.args.most) ≡ true = sym c.tell_excess.ensures ∙ c.if-tell_excess.true in
+    (sources, c.in_ok-sources.ensures, subst (λ (n : ℕ). None ≡ if_within c.args.most n sources) c.in_ok-count.ensures (rw excess refl))
 
-pub returns-in-Ok-2 : goal.returns-in-Ok-2
-returns-in-Ok-2 g c =
-    let within : is_excess c.in-Ok.count (Some c.args.most) ≡ false = search rules in
-    record {
-      sources = c.in_ok-sources.sources;
-      count = c.in-Ok.count;
-      reads = c.in_ok-sources.ensures;
-      counts = c.in-Ok.ensures;
-      kept_is = rw within refl;
-    }
+pub returns-else-tell_excess : goal.returns-else-tell_excess
+returns-else-tell_excess g c =
+    let sources = c.in_ok-sources.sources in
+    let within : is_excess c.in_ok-count.count (Some c.args.most) ≡ false = sym c.tell_excess.ensures ∙ c.if-tell_excess.false in
+    (sources, c.in_ok-sources.ensures, subst (λ (n : ℕ). Some sources ≡ if_within c.args.most n sources) c.in_ok-count.ensures (rw within refl))
