@@ -2,7 +2,7 @@
 use Rattle.std.proofs.Common.{◌≡◌, ◌<◌, ℕ, ◌+◌, ◌&&◌, Bool, true, false, not, cond, List, [], ◌∷◌, ◌++◌, filter, get_or, length, take, Option, Some, None, Result, Ok, Err, refl, ap, sym, subst, ◌∙◌, inl, inr, arith}
 use Rattle.std.proofs.lemmas.Bool.{and_parts, cases_Bool, false_from_ne_true}
 use Rattle.std.proofs.lemmas.List.Sums.{sum_by-cons}
-use Rattle.std.specs.BTreeMap.{BTreeMap, Updates, get as get_in}
+use Rattle.std.specs.BTreeMap.{Updates, get as get_in}
 use Rattle.std.specs.FinMap.{get, get-insert, insert, keys}
 use Rattle.std.specs.List.{count_by}
 use Rattle.std.specs.Option.{option_map, option_or}
@@ -31,7 +31,7 @@ use Rattle.connector_core.specs.declared.changing.ChangeFault.{ChangeFault}
 use Rattle.connector_core.specs.declared.knowledge.Known.{Known}
 use Rattle.provisioning.proofs.OfferLemmas.{rows_next}
 use Rattle.provisioning.specs.Leavers.{GoesAhead, IsAhead, IsKnownSo, TakesSources, group_rows, has_left, is_in_use, is_later, is_leaver, is_off_by, is_switched_off, last_in, last_of, leavers, leavers_by, taking_sources}
-use Rattle.provisioning.specs.Offering.{OffersAll, OffersFile, OffersGroups, both, rows_in}
+use Rattle.provisioning.specs.Offering.{OffersFile, OffersGroups, both, rows_in}
 use Rattle.provisioning.specs.Sources.{records_of}
 use Rattle.provisioning.specs.declared.faults.RunFault.{RunFault}
 use Rattle.provisioning.specs.declared.leavers.Ahead.{Ahead}
