@@ -1,5 +1,5 @@
 """`reset`: a journal forgets what the provider has shown. (What it refuses is in test_openings.py and test_journals.py.)"""
-from databases import group_entry, make_journal, sql, user_entry
+from databases import group_entry, make_journal, sql, user_entry, user_text
 from support import NOWHERE, ProgramTest, full_disk, resource_id, scimlink, writes_of
 
 USERS = [
@@ -82,7 +82,7 @@ class NamedResetTest(JournalTest):
 
     def assert_only_forgotten(self, *names):
         """The entries with these keys are forgotten, and the others are as they were."""
-        self.assertEqual(self.entries(), [[forgotten(entry) if entry[1] in names else entry for entry in entries]
+        self.assertEqual(self.entries(), [[forgotten(entry) if entry[0] in names else entry for entry in entries]
                                           for entries in (USERS, GROUPS)])
 
     def test_a_user(self):
@@ -123,7 +123,7 @@ class NamedResetTest(JournalTest):
         for word in words:
             with self.subTest(word=word):
                 run = self.site.reset("user:ann", word)
-                shown = word.replace("\n", "\\x0a")
+                shown = word.replace("\n", "\\x0A")
                 self.assert_prints(run, status=2, errors=[f"error: '{shown}' isn't user:LOGIN or group:NAME"])
         self.assert_only_forgotten()
 
@@ -147,13 +147,15 @@ class LostAccountTest(JournalTest):
         self.site.write_users("ann,1,,,,,active", "bob,1,,,,,active")
         with self.serving(4, "--store", self.site.store) as provider:
             self.assert_prints(self.site.push(provider.address), "user ann confirmed 1", "user bob confirmed 1")
-        sql(self.site.store, "UPDATE resource SET number = 9 WHERE name_key = 'bob'")
+        # eve's account has the number that bob's had
+        sql(self.site.store, "UPDATE resource SET number = 3 WHERE name_key = 'bob'")
+        sql(self.site.store, f"INSERT INTO resource VALUES (2, 1, 'eve', 1, '{user_text('eve')}')")
         self.site.write_users("ann,1,,,,,active", "bob,2,,,,,left")
         self.assert_prints(self.site.reset("user:bob"), "reset 1 records")
         # ann sends nothing: a search for bob, and his replacement
         with self.serving(2, "--store", self.site.store) as provider:
             self.assert_prints(self.site.push(provider.address), "user ann confirmed 1", "user bob confirmed 2")
-        self.assertIn(resource_id(9), self.site.show_journal().output.decode())
+        self.assertIn(resource_id(3), self.site.show_journal().output.decode())
 
 
 class LostStoreTest(JournalTest):

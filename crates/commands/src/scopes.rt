@@ -80,10 +80,7 @@ fn records_in<'a>(alloc: Global, texts: &[&'a str]) -> Result<Named<'a>, AllocEr
 }
 
 /// The records that the arguments name: all if they name none. Or the first word that names no record.
-pub(crate) fn records<'a>(
-    alloc: Global,
-    words: &ArgMatches<'a>,
-) -> Result<Named<'a>, AllocError>
+pub(crate) fn records<'a>(alloc: Global, words: &ArgMatches<'a>) -> Result<Named<'a>, AllocError>
     ensures { IfOk result (Names (record_texts (found_of words.now))) }
 {
     match words.get_strs("record") {
