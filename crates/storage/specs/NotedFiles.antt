@@ -1,5 +1,4 @@
 -- Files whose failures are kept at a place.
-use Rattle.sqlite_disk.specs.declared.Disk.{Ghosts}
 use Rattle.sqlite_disk.specs.declared.Files.{Files}
 use Rattle.storage.specs.declared.noted_disk.NotedDisk.{NotedDisk}
 
