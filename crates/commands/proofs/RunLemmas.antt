@@ -4,7 +4,6 @@ use denote.Ref.{Bor}
 use Rattle.std.specs.Result.{result_and}
 use Rattle.clap.specs.declared.parser.matches.Found.{Found}
 use Rattle.journal_core.specs.Entries.{EntryMap}
-use Rattle.journal_core.specs.Memory.{MemoryRecord}
 use Rattle.journal_core.specs.declared.journals.Journal.{Ghosts}
 use Rattle.scim_resource.specs.Rows.{StoredRecord}
 use Rattle.provider_core.specs.Memory.{MemoryRecord as RowsRecord}
@@ -56,9 +55,9 @@ module _ {L I O : Type 0} (waiting : L → Option (List (I × O))) (remaining : 
       record { before = before; after = after; held = served.0; outcome = outcome; finished = finished; follows = served.1; serves = served.2; status_is = is; time_is = has_time }
 
 -- the records were carried as the arguments want it
-module _ {I O J L : Type 0} (remaining : I → Option (List ℕ)) (contents : O → Option (List ℕ)) (g : Ghosts J) (h : Ghosts MemoryRecord) (finds : EntryMap → Type 0) (is_closed : J → L → Type 0) (manner : Manner) (found : Found) (job : Job) where
+module _ {I O J L : Type 0} (remaining : I → Option (List ℕ)) (contents : O → Option (List ℕ)) (g : Ghosts J) (finds : EntryMap → Type 0) (is_closed : J → L → Type 0) (manner : Manner) (found : Found) (job : Job) where
   pub pushed : (ended : Result Status CommandFault) → IsJob found job → PushesOver remaining contents g finds is_closed manner.delivery job manner.most_leavers ended
-      → IfOk ended (IsPushed remaining contents g h finds is_closed manner found)
+      → IfOk ended (IsPushed remaining contents g finds is_closed manner found)
   pushed (Ok status) is pushes = (job, is, pushes)
   pushed (Err why) is pushes = tt
 

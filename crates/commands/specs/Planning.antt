@@ -86,19 +86,19 @@ IsPlanned g h finds is_closed most found status =
 
 -- ---- `push`
 
+-- the records of the job that the arguments name were carried, in this manner
+abbrev pub IsPushed : {I O J L : Type 0} → (I → Option (List ℕ)) → (O → Option (List ℕ)) → Journals J
+    → (finds : EntryMap → Type 0) → (is_closed : J → L → Type 0) → Manner → Found → Status → Type 0
+IsPushed remaining contents g finds is_closed manner found status = (job : Job) × IsJob found job
+    × PushesOver remaining contents g finds is_closed manner.delivery job manner.most_leavers (Ok status)
+
 module _ {I O J L : Type 0} (remaining : I → Option (List ℕ)) (contents : O → Option (List ℕ)) (g : Journals J)
     (h : Journals MemoryRecord) where
-  -- the records of the job that the arguments name were carried, in this manner
-  abbrev pub IsPushed : (finds : EntryMap → Type 0) → (is_closed : J → L → Type 0) → Manner → Found → Status → Type 0
-  IsPushed finds is_closed manner found status =
-      (job : Job) × IsJob found job
-      × PushesOver remaining contents g finds is_closed manner.delivery job manner.most_leavers (Ok status)
-
   -- by whether a plan is wanted
   abbrev pub EndsAs : (planned : Bool) → (finds : EntryMap → Type 0) → (is_closed : J → L → Type 0) → Manner → Found
       → Status → Type 0
   EndsAs true finds is_closed manner found status = IsPlanned g h finds is_closed manner.most_leavers found status
-  EndsAs false finds is_closed manner found status = IsPushed finds is_closed manner found status
+  EndsAs false finds is_closed manner found status = IsPushed remaining contents g finds is_closed manner found status
 
   -- from the journal that was named, in the manner of the arguments
   abbrev pub IsPushedAt : {H : Type 0} → (finds : H → EntryMap → Type 0) → (is_closed : J → L → Type 0) → Found

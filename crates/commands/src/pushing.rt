@@ -68,8 +68,7 @@ fn push_named<'a, R: Runtime + Net + AllocGlobal, J: EntryStorage>(
 ) -> Result<Status, CommandFault>
     ensures { IfOk result (IsPushed ⟦<TimedHandle<'a, R::Stream, R> as Read>⟧.remaining
         ⟦<TimedHandle<'a, R::Stream, R> as Write>⟧.contents J.Entries.Journal
-        ⟦<MemoryJournal as Journal>⟧ (J.finds storage.now) J.Entries.is_closed manner
-        (found_of words.now)) }
+        (J.finds storage.now) J.Entries.is_closed manner (found_of words.now)) }
 {
     let to = to(words)?;
     let job = Job::of(rt.alloc(), words)?;
