@@ -25,9 +25,8 @@ pub(crate) struct Ending<'a, S: Drop, C> {
     /// The number of the connection, and that of its descriptor.
     number: usize,
     descriptor: RawFd,
-    /// Whether the system knows its stream, and whether it tells when to look again.
+    /// Whether the system was asked about its stream before.
     is_known: bool,
-    is_watched: bool,
     stream: PromptStream<'a, S, C>,
     unsent: Vec<u8>,
     /// How many of the unsent bytes were sent since.
@@ -61,7 +60,7 @@ impl<'a, S: Read + Write + OpenStream + Drop, C: Clock> Ending<'a, S, C> {
         let LateWriter {
             number,
             descriptor,
-            is_watched,
+            is_known,
             end,
             writer,
             unsent,
@@ -69,8 +68,7 @@ impl<'a, S: Read + Write + OpenStream + Drop, C: Clock> Ending<'a, S, C> {
         let mut ending = Ending {
             number,
             descriptor,
-            is_known: is_watched,
-            is_watched: is_watched && unsent.is_empty(),
+            is_known,
             stream: writer,
             unsent,
             sent: 0,
@@ -146,10 +144,7 @@ impl<'a, S: Read + Write + OpenStream + Drop, C: Clock> Ending<'a, S, C> {
         ensures sent { self.new.sent ≡ self.old.sent }
         ensures unsent { self.new.unsent ≡ self.old.unsent }
     {
-        if !self.is_watched {
-            self.is_watched = self.ask(watch).is_ok();
-        }
-        if self.is_watched {
+        if self.ask(watch).is_ok() {
             self.is_known = true;
             self.next = self.end;
         }
@@ -173,7 +168,6 @@ impl<'a, S: Read + Write + OpenStream + Drop, C: Clock> Ending<'a, S, C> {
         match self.send() {
             Ok(()) => {
                 if self.is_sent() {
-                    self.is_watched = false;
                     self.shut_down(now);
                 }
                 Step::Moves

@@ -41,8 +41,8 @@ pub(crate) struct Held<S: Drop> {
     accepted: Instant,
     /// When to look at it again: once something may have come on it, or its time is over.
     next: Instant,
-    /// Whether the system tells when something comes on it.
-    is_watched: bool,
+    /// Whether the system was asked about its stream before.
+    is_known: bool,
     /// What came on its stream. Nothing outside of this file takes it away, or adds to it.
     received: Received,
     /// Whether no request comes any more: its time is over, or its stream failed, or ended before anything came.
@@ -84,7 +84,7 @@ impl<S: Read + AsRawFd + Drop> Held<S> {
             deadline,
             accepted: now,
             next: now,
-            is_watched: false,
+            is_known: false,
             received: Received::new(alloc),
             is_gone: false,
         }
@@ -239,7 +239,7 @@ impl<S: Read + AsRawFd + Drop> Held<S> {
                 if self.received.is_ready(alloc) {
                     return Arrival::Last;
                 }
-                if count < room && !self.is_watched {
+                if count < room && !self.is_known {
                     self.rest(watch);
                 }
                 Arrival::Bytes
@@ -265,11 +265,9 @@ impl<S: Read + AsRawFd + Drop> Held<S> {
         ensures stream { self.new.stream ≡ self.old.stream }
         ensures received { self.new.received ≡ self.old.received }
     {
-        if !self.is_watched {
-            let is_asked = watch.ask_for_bytes(self.stream.as_raw_fd(), self.number, false);
-            self.is_watched = is_asked.is_ok();
-        }
-        if self.is_watched {
+        let is_asked = watch.ask_for_bytes(self.stream.as_raw_fd(), self.number, self.is_known);
+        if is_asked.is_ok() {
+            self.is_known = true;
             self.next = self.deadline.end;
         }
     }
@@ -301,7 +299,7 @@ impl<S: Read + Write + OpenStream + AsRawFd + Drop> Held<S> {
             deadline,
             accepted: _,
             next: _,
-            is_watched,
+            is_known,
             received,
             is_gone: _,
         } = self;
@@ -311,7 +309,7 @@ impl<S: Read + Write + OpenStream + AsRawFd + Drop> Held<S> {
         let writer = PromptStream::new(stream, clock, deadline);
         Ok((
             PromptStream::new(reader, clock, deadline),
-            LateWriter::new(alloc, number, descriptor, is_watched, deadline.end, writer),
+            LateWriter::new(alloc, number, descriptor, is_known, deadline.end, writer),
         ))
     }
 }

@@ -12,10 +12,11 @@ use std::time::Instant;
 /// A writer that keeps what the writer below doesn't take at once.
 #[derive(Drop)]
 pub struct LateWriter<W: Drop> {
-    /// The number of the connection, that of its descriptor, whether the system watches it, and when its time is over.
+    /// The number of the connection, that of its descriptor, whether the system was asked about it before, and when its
+    /// time is over.
     pub(crate) number: usize,
     pub(crate) descriptor: RawFd,
-    pub(crate) is_watched: bool,
+    pub(crate) is_known: bool,
     pub(crate) end: Instant,
     pub(crate) writer: W,
     /// What the writer below doesn't have yet.
@@ -27,7 +28,7 @@ impl<W: Write + Drop> LateWriter<W> {
         alloc: Global,
         number: usize,
         descriptor: RawFd,
-        is_watched: bool,
+        is_known: bool,
         end: Instant,
         writer: W,
     ) -> Self
@@ -39,7 +40,7 @@ impl<W: Write + Drop> LateWriter<W> {
         LateWriter {
             number,
             descriptor,
-            is_watched,
+            is_known,
             end,
             writer,
             unsent: Vec::new(alloc),

@@ -15,9 +15,8 @@ use std::time::Duration;
 /// The token of the listening socket. That of a connection is its number.
 const LISTENER: Token = Token(usize::MAX);
 
-/// Sockets that the system watches. It is asked about a socket once, when nothing comes on it, or it takes nothing more.
-/// From then on it tells each time that something comes, or that more is taken. Nothing is promised of what it tells,
-/// nor when.
+/// Sockets that the system watches. It is asked about a socket when nothing comes on it, or it takes nothing more, and
+/// then tells once. Nothing is promised of what it tells, nor when.
 #[derive(Drop)]
 pub(crate) struct Watch {
     poll: Poll,
