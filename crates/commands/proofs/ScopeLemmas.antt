@@ -22,11 +22,11 @@ none_among (first ∷ front) back text none =
     elim (is_some (record_in first.now)) as (λ (b : Bool). (b && are_records (named (front ++ text ∷ back))) ≡ false) [ true ↦ later | false ↦ refl ]
 
 -- a word that names none is among them
-pub wrong_at : (texts : List (Bor (List ℕ))) (at : ℕ) (text : Bor (List ℕ)) → at < length texts → text ≡ get_or texts at text → record_in text.now ≡ None → are_records (named texts) ≡ false
-wrong_at texts at text within is none =
-    let parts : texts ≡ take at texts ++ text ∷ drop (at + 1) texts =
-    sym (take-append-drop at texts) ∙ ap (λ l. take at texts ++ l) (drop_more texts at text within ∙ ap (λ t. t ∷ drop (at + 1) texts) (sym is)) in
-    subst (λ l. are_records (named l) ≡ false) (sym parts) (none_among (take at texts) (drop (at + 1) texts) text none)
+pub wrong_at : (texts : List (Bor (List ℕ))) (at : ℕ) (d : Bor (List ℕ)) → at < length texts → record_in (get_or texts at d).now ≡ None → are_records (named texts) ≡ false
+wrong_at texts at d within none =
+    let parts : texts ≡ take at texts ++ get_or texts at d ∷ drop (at + 1) texts =
+    sym (take-append-drop at texts) ∙ ap (λ l. take at texts ++ l) (drop_more texts at d within) in
+    subst (λ l. are_records (named l) ≡ false) (sym parts) (none_among (take at texts) (drop (at + 1) texts) (get_or texts at d) none)
 
 -- ---- the end
 

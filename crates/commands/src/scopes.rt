@@ -64,7 +64,6 @@ fn record_in(alloc: Global, text: &str) -> Result<Option<RecordName>, AllocError
 }
 
 /// The records that these words name, or the first word that names none.
-#[tactic(auto, using(crate::proofs::ScopeLemmas::wrong_at))]
 fn records_in<'a>(alloc: Global, texts: &[&'a str]) -> Result<Named<'a>, AllocError>
     ensures { IfOk result (Names (named texts.now)) }
 {
