@@ -361,11 +361,11 @@ class Job:
     def show_journal(self, folder, fault):
         self.shows(folder, fault, "--journal", [f"user bob wanted=1 confirmed=1 id={resource_id(1)}"])
 
-    def reset(self, folder, fault):
-        """A reset with a fault, then one without: the journal has forgotten all, or nothing."""
+    def reset(self, folder, fault, *names):
+        """A reset with a fault, then one without: the journal has forgotten the record, or nothing."""
         site = self.start(folder)
         entry = f"user bob wanted=1 confirmed=1 id={resource_id(1)}"
-        run = site.reset(**fault.options)
+        run = site.reset(*names, **fault.options)
         check_ending(run, fault)
         check(run.lines, ["reset 1 records"][: len(run.lines)], "lines")
         if fault.left_before(kept(site), run.output):
@@ -373,9 +373,13 @@ class Job:
         shown = show("--journal", site.journal)
         if shown not in ([entry], [FORGOTTEN]) or (run.output and shown == [entry]):
             raise AssertionError(f"status {run.status}, {shown!r}")
-        again = site.reset()
+        again = site.reset(*names)
         check((again.status, again.lines), (0, [f"reset {int(shown == [entry])} records"]), "the next reset")
         check(show("--journal", site.journal), [FORGOTTEN], "the journal in the end")
+
+    def reset_named(self, folder, fault):
+        """The same, if the record is named."""
+        self.reset(folder, fault, "user:bob")
 
     def shows(self, folder, fault, option, lines):
         """A show with a fault of what is kept at first, then one without."""
@@ -457,7 +461,8 @@ class FaultsTest(unittest.TestCase):
             self.refuse("ALLOCATION", story, opening=None, step=STEP)
 
     def test_memory_of_reset(self):
-        self.refuse_memory_after(open_journal, self.leaver.reset)
+        for story in self.leaver.reset, self.leaver.reset_named:
+            self.refuse_memory_after(open_journal, story)
 
     def test_journals_of_older_formats(self):
         for story in carry_over_1, carry_over_2:
@@ -481,13 +486,14 @@ class FaultsTest(unittest.TestCase):
         )
 
     def test_writes(self):
-        self.refuse("WRITE", answer_stored, self.leaver.reset, ways=WRITE_FAULTS)
+        self.refuse("WRITE", answer_stored, self.leaver.reset, self.leaver.reset_named, ways=WRITE_FAULTS)
         for job in self.joiners, self.leaver:
             self.refuse("WRITE", job.push, job.push_abreast, job.serve, job.loop, ways=WRITE_FAULTS)
 
     def test_reads(self):
         leaver = self.leaver
-        stories = leaver.show_store, leaver.show_journal, leaver.reset, leaver.push, leaver.exceed, leaver.serve, leaver.loop
+        resets = leaver.reset, leaver.reset_named
+        stories = leaver.show_store, leaver.show_journal, *resets, leaver.push, leaver.exceed, leaver.serve, leaver.loop
         self.refuse("READ", answer_stored, *stories, ways=["5"])
 
 
