@@ -38,9 +38,11 @@ Approves job None book kept = (sources : Sources) × ReadsFiles None job (Ok sou
 
 -- ---- the run
 
-module _ {I O J : Type 0} (remaining : I → Option (List ℕ)) (contents : O → Option (List ℕ)) (g : Journals J) where
+module _ {I O J : Type 0} (remaining : I → Option (List ℕ)) (contents : O → Option (List ℕ))
+    (g : Journals J) where
   -- the files keep to the limit, and their records were carried by this connector
-  abbrev pub IsCarried : Delivery → Job → (most : Option ℕ) → (old new : State J) → Result Status CommandFault → Type 0
+  abbrev pub IsCarried : Delivery → Job → (most : Option ℕ) → (old new : State J) → Result Status CommandFault
+      → Type 0
   IsCarried delivery job most old new ended = (sources : Sources) × Approves job most old.book (Some sources)
       × PushesKnown remaining contents g delivery job.service sources old new ended
 
@@ -53,14 +55,14 @@ module _ {I O J : Type 0} (remaining : I → Option (List ℕ)) (contents : O �
   IsFailed old new ended = (why : CommandFault) × (new ≡ old) × (ended ≡ Err why)
 
   -- one of these
-  abbrev pub PushesApproved : Delivery → Job → (most : Option ℕ) → (old new : State J) → Result Status CommandFault
-      → Type 0
+  abbrev pub PushesApproved : Delivery → Job → (most : Option ℕ) → (old new : State J)
+      → Result Status CommandFault → Type 0
   PushesApproved delivery job most old new ended =
       IsCarried delivery job most old new ended
       ⊎ (IsStopped job most old new ended ⊎ IsFailed old new ended)
 
   -- by a connector over a journal that was opened for it, and closed; or the journal couldn't be opened or read
-  abbrev pub PushesOver : {L : Type 0} → (finds : EntryMap → Type 0) → (is_closed : J → L → Type 0) → Delivery → Job
-      → (most : Option ℕ) → Result Status CommandFault → Type 0
+  abbrev pub PushesOver : {L : Type 0} → (finds : EntryMap → Type 0) → (is_closed : J → L → Type 0) → Delivery
+      → Job → (most : Option ℕ) → Result Status CommandFault → Type 0
   PushesOver finds is_closed delivery job most ended =
       RunsOver g finds is_closed (PushesApproved delivery job most) ended

@@ -52,7 +52,8 @@ EndsShowing holds last ended = (shown : Result (Unit {0}) ShowFault) × OnOk sho
     × (ended ≡ concluded last (shown_status shown))
 
 -- the same of a reset, by its answer
-abbrev pub EndsResetting : (holds : ResetResult → Type 0) → (last : Option Error) → Result Status CommandFault → Type 0
+abbrev pub EndsResetting : (holds : ResetResult → Type 0) → (last : Option Error) → Result Status CommandFault
+    → Type 0
 EndsResetting holds last ended = (shown : Result ResetResult ShowFault) × IfOk shown holds
     × (ended ≡ concluded last (reset_status shown))
 
@@ -62,14 +63,14 @@ IsReset g finds scope status = (answer : ResetResult) × ResetsFrom g finds scop
     × (reset_status (Ok answer) ≡ Ok status)
 
 -- the one that was named
-abbrev pub IsResetOf : {J H : Type 0} → Journals J → (finds : H → EntryMap → Type 0) → Scope → Option (Bor H)
-    → Status → Type 0
+abbrev pub IsResetOf : {J H : Type 0} → Journals J → (finds : H → EntryMap → Type 0) → Scope
+    → Option (Bor H) → Status → Type 0
 IsResetOf g finds scope (Some journal) status = IsReset g (finds journal.now) scope status
 IsResetOf g finds scope None status = ⊥
 
 -- the records that these words name are reset; or a word names none, and nothing is opened
-abbrev pub IsResetAt : {J H : Type 0} → Journals J → (finds : H → EntryMap → Type 0) → (texts : List (List ℕ))
-    → Option (Bor H) → Status → Type 0
+abbrev pub IsResetAt : {J H : Type 0} → Journals J → (finds : H → EntryMap → Type 0)
+    → (texts : List (List ℕ)) → Option (Bor H) → Status → Type 0
 IsResetAt g finds texts journal status =
     ((scope : Scope) × IsScope texts scope × IsResetOf g finds scope journal status)
     ⊎ ((status ≡ Usage) × (are_records texts ≡ false))

@@ -18,7 +18,7 @@ use std::io::{Eprint, Write};
 use std::rt::Runtime;
 use storage::{EntryStorage, ShowFault, reset_entries};
 
-/// Forgets the confirmed revision and the id of each record of a journal, or of those that the arguments name, and
+/// Forgets the confirmed revision and the id of each record of a journal, or of the named records, and
 /// prints how many records this changed. If one isn't in the journal, it reports the first such on standard error,
 /// and changes nothing. If there is no such file, it makes none.
 pub fn reset<R: Runtime + AllocGlobal, J: EntryStorage>(

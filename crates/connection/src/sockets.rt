@@ -279,7 +279,7 @@ where
         self.accept_some(1, now)
     }
 
-    /// Gives up the largest requests until those that are left leave room for what comes in a turn.
+    /// Gives up the largest requests until the others leave room for what comes in a turn.
     fn free_memory(&mut self) {
         let others = self.searches.size();
         for _ in 0..self.waiting.len() {

@@ -125,8 +125,8 @@ module _ {R J I O P Q : Type 0} (g : Registries R) (h : Journals J) (received : 
     PushesInTurnAreMoves =
         (base : List ℕ) (leavers_first : Bool) (limit : ℕ) (sources : Sources) (opened : List (Opening I O))
         (old new : Connector J) (before after : T) (result : Result Outcome RunFault)
-        → CarriesBy (PushesInTurn received posted h base leavers_first limit) h heard told sources opened old new before
-        after result
+        → CarriesBy (PushesInTurn received posted h base leavers_first limit) h heard told sources opened old new
+        before after result
         → AllByRecursion IsRow (rows_of_files sources) → IsPush P Q h received posted base opened old.book new.book
 
     -- A push at any pace makes such moves: it offers the rows of its files, and then makes the exchanges for its

@@ -45,7 +45,8 @@ abbrev pub kept_row : BTreeMap RecordName (Option Row) → RecordName → Option
 kept_row rows name = unwrap_or (get name_cmp rows name) None
 
 -- these rows, and this one of one more record
-abbrev pub kept_more : (rows : RecordName → Option Row) → (name : RecordName) → Option Row → RecordName → Option Row
+abbrev pub kept_more : (rows : RecordName → Option Row) → (name : RecordName) → Option Row → RecordName
+    → Option Row
 kept_more rows name row other = if same_name name other then row else rows other
 
 abbrev pub row_in : Basis → RecordName → Option Row

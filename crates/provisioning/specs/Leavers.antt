@@ -94,8 +94,8 @@ IsKnownSo said confirmed (Some known) = (said ≡ Some (last_of known.wanted)) �
 
 -- the rows so far make the later book of the first one, as far as it is of users whom the first one has
 abbrev pub IsAhead : BookMap → Ahead → (later : BookMap) → Type 0
-IsAhead book ahead later = (name : RecordName) (known : Known) → name.kind ≡ kind.User → get book name ≡ Some known
-    → IsKnownSo (last_in ahead book name) known.confirmed (get later name)
+IsAhead book ahead later = (name : RecordName) (known : Known) → name.kind ≡ kind.User
+    → get book name ≡ Some known → IsKnownSo (last_in ahead book name) known.confirmed (get later name)
 
 -- they do so, too, if these rows follow
 abbrev pub GoesAhead : BookMap → (old new : Ahead) → List Row → Type 0

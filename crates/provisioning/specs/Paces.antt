@@ -17,8 +17,8 @@ module _ {I O J : Type 0} (remaining : I → Option (List ℕ)) (contents : O �
     (base : List ℕ) where
   -- The records of the connector, one after another, in this order; or memory ran out before the first of them. In the
   -- order of keys, and without a limit of streaks, this is `PushesAll`
-  abbrev pub PushesInTurn : (leavers_first : Bool) → (limit : ℕ) → (opened : List (Opening I O)) → (old new : State J)
-      → (before after : Option (List Done)) → Result Tally RunFault → Type 0
+  abbrev pub PushesInTurn : (leavers_first : Bool) → (limit : ℕ) → (opened : List (Opening I O))
+      → (old new : State J) → (before after : Option (List Done)) → Result Tally RunFault → Type 0
   PushesInTurn leavers_first limit opened old new before after result =
       ((names : List RecordName) × IsPushOrder leavers_first old.book names
       × PushesEach remaining contents g base limit names opened old new before after result)

@@ -66,26 +66,27 @@ absent_text true = codes " (not in the file)"
 absent_text false = []
 
 -- the line of a record with this row, which changes these columns of the confirmed one
-abbrev pub planned_text : RecordName → (confirmed : RevisionValue) → Row → (before : Option Row) → (changes : List Column)
-    → (absent : Bool) → List ℕ
+abbrev pub planned_text : RecordName → (confirmed : RevisionValue) → Row → (before : Option Row)
+    → (changes : List Column) → (absent : Bool) → List ℕ
 planned_text name confirmed row before changes absent = kind_word name.kind ++ (codes " " ++ (name.key ++ (codes " " ++
     (from_text confirmed ++ (codes " " ++ (revision_text (row_revision row) ++ (said_text before row changes ++
     (absent_text absent ++ changes_text changes))))))))
 
 -- the line of a record with this row, beside its confirmed one, if that is known; no line if the row is confirmed
-abbrev pub line_by : RecordName → (confirmed : RevisionValue) → (before : Option Row) → (absent : Bool) → Option Row
-    → List ℕ
+abbrev pub line_by : RecordName → (confirmed : RevisionValue) → (before : Option Row) → (absent : Bool)
+    → Option Row → List ℕ
 line_by name confirmed before absent None = []
 line_by name confirmed before absent (Some row) = if same_revision (row_revision row) confirmed then []
     else planned_text name confirmed row before (changes_from before row) absent ++ codes "\n"
 
 -- the line of a record, if its wanted revision isn't confirmed
-abbrev pub plan_line : (before : RecordName → Option Row) → (absent : RecordName → Bool) → Book → RecordName → List ℕ
+abbrev pub plan_line : (before : RecordName → Option Row) → (absent : RecordName → Bool) → Book → RecordName
+    → List ℕ
 plan_line before absent book name =
     line_by name (confirmed_of book name) (before name) (absent name) (wanted_row book name)
 
-abbrev pub plan_lines : (before : RecordName → Option Row) → (absent : RecordName → Bool) → Book → List RecordName
-    → List ℕ
+abbrev pub plan_lines : (before : RecordName → Option Row) → (absent : RecordName → Bool) → Book
+    → List RecordName → List ℕ
 plan_lines before absent book names = flat_map (plan_line before absent book) names
 
 -- ---- the plan
@@ -108,7 +109,8 @@ PlansRecords sources old new before after =
 abbrev pub Plans : {J : Type 0} → Ghosts J → Sources → (old new : State J)
     → (heard later : Option (List Judged)) → (before after : Option (List ℕ)) → Result Plan RunFault → Type 0
 Plans g sources old new heard later before after (Ok plan) =
-    (taken : Bool) × OffersAll g sources old new heard later (Ok taken) × PlansRecords sources old.book new.book before after
+    (taken : Bool) × OffersAll g sources old new heard later (Ok taken)
+    × PlansRecords sources old.book new.book before after
     × (plan ≡ record { is_taken = taken && are_whole sources; leavers = leavers old.book new.book })
 Plans g sources old new heard later before after (Err fault) =
     OffersAll g sources old new heard later (Err fault)
