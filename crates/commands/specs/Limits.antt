@@ -62,7 +62,7 @@ module _ {I O J : Type 0} (remaining : I → Option (List ℕ)) (contents : O �
       ⊎ (IsStopped job most old new ended ⊎ IsFailed old new ended)
 
   -- by a connector over a journal that was opened for it, and closed; or the journal couldn't be opened or read
-  abbrev pub PushesOver : {L : Type 0} → (finds : EntryMap → Type 0) → (is_closed : J → L → Type 0) → Delivery
-      → Job → (most : Option ℕ) → Result Status CommandFault → Type 0
+  abbrev pub PushesOver : {L : Type 0} → (finds : EntryMap → Type 0) → (is_closed : J → L → Type 0)
+      → Delivery → Job → (most : Option ℕ) → Result Status CommandFault → Type 0
   PushesOver finds is_closed delivery job most ended =
       RunsOver g finds is_closed (PushesApproved delivery job most) ended
