@@ -1,6 +1,7 @@
 """`serve` during a search of many rows: others connect, send, and get the rest of their answers. It stops the search
 after its time."""
 import contextlib
+import os
 import select
 import time
 
@@ -11,7 +12,7 @@ from test_slow_clients import LIST, narrow_connection
 
 # So many rows, and so many parts of a filter, that a search takes a quarter of a second and more
 ROWS, PARTS = 100_000, 60
-# More clients than the system's queue and those that are read meanwhile, 128 and 64; the seconds between two of them
+# Clients that connect during a search, more than one turn accepts; the seconds between two of them
 CLIENTS, PACE = 200, 0.0002
 # So many pages of the store are read once a search is under way
 PAGES = 100
@@ -57,6 +58,7 @@ class LongSearchTest(ProgramTest):
                 streams.append(stack.enter_context(provider.connect()))
                 streams[-1].sendall(FIND_FIRST)
                 time.sleep(PACE)
+            wait_until(lambda: len(os.listdir(f"/proc/{provider.pid}/fd")) > CLIENTS, "a place for the clients")
             self.assert_unanswered(search)
             self.assert_found_nothing(search)
             for stream in streams:

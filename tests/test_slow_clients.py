@@ -19,7 +19,7 @@ PROMPTLY = TIME_LIMIT / 2
 MOST_HELD, GRANTED = 4_096, 0.1
 # The most bytes of memory that their requests take for longer
 MOST_MEMORY = 16 * 1024 * 1024
-# How many connections are opened together, and how many more than have a place. The system's queue takes 128
+# How many connections are opened together, and how many more than have a place
 PART, EXCESS = 100, 20
 
 

@@ -27,7 +27,7 @@ use provisioning::{RunFault, Sources};
 pub use runs::{OWN_ADDRESS, run_loop};
 use std::alloc::Global;
 use std::io::{Read, Write};
-use std::net::Net;
+use std::net::{Net, TcpListener};
 use std::rt::Runtime;
 use storage::{EntryStorage, InMemory, RowStorage, StoredRows};
 use timed_streams::TimedHandle;
@@ -40,8 +40,8 @@ pub fn carry<'a, R: Runtime + Net + AllocGlobal, K: RowStorage + 'a, J: EntrySto
     journal: Option<&J>,
 ) -> Result<Status, CommandFault>
     ensures { IfOk result (IsLooped
-        ⟦<OwnReader<'a, 'a, 'a, R, Sockets<'a, R::Listener, R>, K::Rows> as Read>⟧.remaining
-        ⟦<OwnReader<'a, 'a, 'a, R, Sockets<'a, R::Listener, R>, MemoryRegistry> as Read>⟧.remaining
+        ⟦<OwnReader<'a, 'a, 'a, R, Sockets<'a, TcpListener, R>, K::Rows> as Read>⟧.remaining
+        ⟦<OwnReader<'a, 'a, 'a, R, Sockets<'a, TcpListener, R>, MemoryRegistry> as Read>⟧.remaining
         ⟦<TimedHandle<'a, R::Stream, R> as Write>⟧.contents K.Rows.Registry K.finds K.Rows.is_closed
         ⟦<MemoryRegistry as Registry>⟧ J.Entries.Journal J.finds J.Entries.is_closed
         ⟦<MemoryJournal as Journal>⟧ (found_of words.now) store.entry journal.entry) }
@@ -58,8 +58,8 @@ fn carry_job<'a, R: Runtime + Net + AllocGlobal, K: RowStorage + 'a, J: EntrySto
     job: &Job<'_>,
 ) -> Result<Status, CommandFault>
     ensures { LoopsWith
-        ⟦<OwnReader<'a, 'a, 'a, R, Sockets<'a, R::Listener, R>, K::Rows> as Read>⟧.remaining
-        ⟦<OwnReader<'a, 'a, 'a, R, Sockets<'a, R::Listener, R>, MemoryRegistry> as Read>⟧.remaining
+        ⟦<OwnReader<'a, 'a, 'a, R, Sockets<'a, TcpListener, R>, K::Rows> as Read>⟧.remaining
+        ⟦<OwnReader<'a, 'a, 'a, R, Sockets<'a, TcpListener, R>, MemoryRegistry> as Read>⟧.remaining
         ⟦<TimedHandle<'a, R::Stream, R> as Write>⟧.contents K.Rows.Registry K.finds K.Rows.is_closed
         ⟦<MemoryRegistry as Registry>⟧ J.Entries.Journal J.finds J.Entries.is_closed
         ⟦<MemoryJournal as Journal>⟧ job.now store.entry journal.entry result }
@@ -77,7 +77,7 @@ fn carry_to_memory<'a, R: Runtime + Net + AllocGlobal, J: EntryStorage>(
     job: &Job<'_>,
 ) -> Result<Status, CommandFault>
     ensures { RunsWith ⟦<MemoryRegistry as Registry>⟧ IsEmpty IsDropped (LoopsAt
-        ⟦<OwnReader<'a, 'a, 'a, R, Sockets<'a, R::Listener, R>, MemoryRegistry> as Read>⟧.remaining
+        ⟦<OwnReader<'a, 'a, 'a, R, Sockets<'a, TcpListener, R>, MemoryRegistry> as Read>⟧.remaining
         ⟦<TimedHandle<'a, R::Stream, R> as Write>⟧.contents J.Entries.Journal J.finds
         J.Entries.is_closed ⟦<MemoryJournal as Journal>⟧ job.now journal.entry) result }
 {
@@ -93,7 +93,7 @@ fn carry_stored<'a, R: Runtime + Net + AllocGlobal, K: RowStorage + 'a, J: Entry
     job: &Job<'_>,
 ) -> Result<Status, CommandFault>
     ensures { RunsWith K.Rows.Registry (K.finds storage.now) K.Rows.is_closed (LoopsAt
-        ⟦<OwnReader<'a, 'a, 'a, R, Sockets<'a, R::Listener, R>, K::Rows> as Read>⟧.remaining
+        ⟦<OwnReader<'a, 'a, 'a, R, Sockets<'a, TcpListener, R>, K::Rows> as Read>⟧.remaining
         ⟦<TimedHandle<'a, R::Stream, R> as Write>⟧.contents J.Entries.Journal J.finds
         J.Entries.is_closed ⟦<MemoryJournal as Journal>⟧ job.now journal.entry) result }
 {
@@ -118,7 +118,7 @@ fn carry_from<'a, R: Runtime + Net + AllocGlobal, S: StoredRows + 'a, J: EntrySt
     job: &Job<'_>,
 ) -> Result<Status, CommandFault>
     ensures { LoopsAt
-        ⟦<OwnReader<'a, 'a, 'a, R, Sockets<'a, R::Listener, R>, S> as Read>⟧.remaining
+        ⟦<OwnReader<'a, 'a, 'a, R, Sockets<'a, TcpListener, R>, S> as Read>⟧.remaining
         ⟦<TimedHandle<'a, R::Stream, R> as Write>⟧.contents J.Entries.Journal J.finds
         J.Entries.is_closed ⟦<MemoryJournal as Journal>⟧ job.now journal.entry
         (0 < S.faults provider.new) result }
@@ -137,7 +137,7 @@ fn carry_journaled<'a, R: Runtime + Net + AllocGlobal, S: StoredRows + 'a, J: En
     job: &Job<'_>,
 ) -> Result<Status, CommandFault>
     ensures { LoopsOver
-        ⟦<OwnReader<'a, 'a, 'a, R, Sockets<'a, R::Listener, R>, S> as Read>⟧.remaining
+        ⟦<OwnReader<'a, 'a, 'a, R, Sockets<'a, TcpListener, R>, S> as Read>⟧.remaining
         ⟦<TimedHandle<'a, R::Stream, R> as Write>⟧.contents J.Entries.Journal
         (J.finds storage.now) J.Entries.is_closed job.now (0 < S.faults provider.new) result }
 {
@@ -154,7 +154,7 @@ fn carry_from_memory<'a, R: Runtime + Net + AllocGlobal, S: StoredRows + 'a>(
     job: &Job<'_>,
 ) -> Result<Status, CommandFault>
     ensures { LoopsOver
-        ⟦<OwnReader<'a, 'a, 'a, R, Sockets<'a, R::Listener, R>, S> as Read>⟧.remaining
+        ⟦<OwnReader<'a, 'a, 'a, R, Sockets<'a, TcpListener, R>, S> as Read>⟧.remaining
         ⟦<TimedHandle<'a, R::Stream, R> as Write>⟧.contents ⟦<MemoryJournal as Journal>⟧ HasNone
         IsDropped job.now (0 < S.faults provider.new) result }
 {
@@ -187,7 +187,7 @@ fn carry_over<'a, R: Runtime + Net + AllocGlobal, S: StoredRows + 'a, J: Journal
     job: &Job<'_>,
 ) -> Result<Status, CommandFault>
     ensures { LoopsFrom
-        ⟦<OwnReader<'a, 'a, 'a, R, Sockets<'a, R::Listener, R>, S> as Read>⟧.remaining
+        ⟦<OwnReader<'a, 'a, 'a, R, Sockets<'a, TcpListener, R>, S> as Read>⟧.remaining
         ⟦<TimedHandle<'a, R::Stream, R> as Write>⟧.contents J.Journal job.now
         (0 < S.faults provider.new) connector.old connector.new result }
 {
@@ -206,7 +206,7 @@ fn carry_to<'a, R: Runtime + Net + AllocGlobal, S: StoredRows + 'a, J: Journal, 
     out: &mut NotedWriter<W>,
 ) -> Result<Status, CommandFault>
     ensures { LoopsTo
-        ⟦<OwnReader<'a, 'a, 'a, R, Sockets<'a, R::Listener, R>, S> as Read>⟧.remaining
+        ⟦<OwnReader<'a, 'a, 'a, R, Sockets<'a, TcpListener, R>, S> as Read>⟧.remaining
         ⟦<TimedHandle<'a, R::Stream, R> as Write>⟧.contents J.Journal job.now.service sources.now
         connector.old connector.new (0 < S.faults provider.new) out.new.last result }
 {

@@ -15,9 +15,8 @@ use connection::{AheadReader, ConnectionFault, LateWriter, Listen, Sockets, serv
 use provider_core::{MemoryRegistry, Registry};
 use provisioning::CONNECTION_SECONDS;
 use scim_key::Base;
-use std::io;
 use std::io::{Read, Write};
-use std::net::{Net, OpenListener, SocketAddr, TcpListener};
+use std::net::{Net, TcpListener, TcpStream};
 use std::rt::Runtime;
 use std::time::Duration;
 use storage::{RowStorage, StoredRows};
@@ -31,9 +30,9 @@ pub fn serve<'a, R: Runtime + Net + AllocGlobal, K: RowStorage>(
     store: Option<&K>,
 ) -> Result<Status, CommandFault>
     ensures { IfOk result
-        (IsServed ⟦<Sockets<'a, R::Listener, R> as Listen>⟧.waiting
-        ⟦<PromptStream<'a, AheadReader<SharedStream<R::Stream>>, R> as Read>⟧.remaining
-        ⟦<LateWriter<PromptStream<'a, SharedStream<R::Stream>, R>> as Write>⟧.contents
+        (IsServed ⟦<Sockets<'a, TcpListener, R> as Listen>⟧.waiting
+        ⟦<PromptStream<'a, AheadReader<SharedStream<TcpStream>>, R> as Read>⟧.remaining
+        ⟦<LateWriter<PromptStream<'a, SharedStream<TcpStream>, R>> as Write>⟧.contents
         (λ sockets. as_nanos sockets.search_times.longest)
         K.Rows.Registry K.finds ⟦<MemoryRegistry as Registry>⟧ (found_of words.now) store.entry) }
 {
@@ -56,9 +55,9 @@ fn serve_empty<'a, R: Runtime + Net + AllocGlobal>(
     base: &Base,
 ) -> Result<Status, CommandFault>
     ensures { IfOk result
-        (ServesEmpty ⟦<Sockets<'a, R::Listener, R> as Listen>⟧.waiting
-        ⟦<PromptStream<'a, AheadReader<SharedStream<R::Stream>>, R> as Read>⟧.remaining
-        ⟦<LateWriter<PromptStream<'a, SharedStream<R::Stream>, R>> as Write>⟧.contents
+        (ServesEmpty ⟦<Sockets<'a, TcpListener, R> as Listen>⟧.waiting
+        ⟦<PromptStream<'a, AheadReader<SharedStream<TcpStream>>, R> as Read>⟧.remaining
+        ⟦<LateWriter<PromptStream<'a, SharedStream<TcpStream>, R>> as Write>⟧.contents
         (λ sockets. as_nanos sockets.search_times.longest)
         ⟦<MemoryRegistry as Registry>⟧ base.now requests (seconds * 1_000_000_000)) }
 {
@@ -78,9 +77,9 @@ fn serve_from_file<'a, R: Runtime + Net + AllocGlobal, K: RowStorage>(
     storage: &K,
 ) -> Result<Status, CommandFault>
     ensures { IfOk result
-        (ServesStored ⟦<Sockets<'a, R::Listener, R> as Listen>⟧.waiting
-        ⟦<PromptStream<'a, AheadReader<SharedStream<R::Stream>>, R> as Read>⟧.remaining
-        ⟦<LateWriter<PromptStream<'a, SharedStream<R::Stream>, R>> as Write>⟧.contents
+        (ServesStored ⟦<Sockets<'a, TcpListener, R> as Listen>⟧.waiting
+        ⟦<PromptStream<'a, AheadReader<SharedStream<TcpStream>>, R> as Read>⟧.remaining
+        ⟦<LateWriter<PromptStream<'a, SharedStream<TcpStream>, R>> as Write>⟧.contents
         (λ sockets. as_nanos sockets.search_times.longest)
         K.Rows.Registry (K.finds storage.now) base.now requests (seconds * 1_000_000_000)) }
 {
@@ -100,14 +99,14 @@ fn serve_rows<'a, R: Runtime + Net + AllocGlobal, K: RowStorage>(
     rt: &'a R,
     storage: &K,
     rows: K::Rows,
-    sockets: &mut Sockets<'a, R::Listener, R>,
+    sockets: &mut Sockets<'a, TcpListener, R>,
     requests: u64,
     base: &Base,
 ) -> Result<Status, CommandFault>
     ensures { IfOk result
-        (ServesRows ⟦<Sockets<'a, R::Listener, R> as Listen>⟧.waiting
-        ⟦<PromptStream<'a, AheadReader<SharedStream<R::Stream>>, R> as Read>⟧.remaining
-        ⟦<LateWriter<PromptStream<'a, SharedStream<R::Stream>, R>> as Write>⟧.contents
+        (ServesRows ⟦<Sockets<'a, TcpListener, R> as Listen>⟧.waiting
+        ⟦<PromptStream<'a, AheadReader<SharedStream<TcpStream>>, R> as Read>⟧.remaining
+        ⟦<LateWriter<PromptStream<'a, SharedStream<TcpStream>, R>> as Write>⟧.contents
         (λ sockets. as_nanos sockets.search_times.longest)
         K.Rows.Registry (K.finds storage.now) base.now rows requests
         (as_nanos sockets.old.search_times.longest)) }
@@ -140,25 +139,17 @@ fn sockets<'a, R: Runtime + Net + AllocGlobal>(
     rt: &'a R,
     address: &str,
     seconds: u32,
-) -> Result<Sockets<'a, R::Listener, R>, CommandFault>
+) -> Result<Sockets<'a, TcpListener, R>, CommandFault>
     ensures { IfOk result (λ sockets. as_nanos sockets.search_times.longest
         ≡ seconds * 1_000_000_000) }
 {
     let limit = Duration::from_secs(CONNECTION_SECONDS);
     let longest_search = Duration::from_secs(u64::from(seconds));
-    let (listener, taken) = bound(rt, address).map_err(|error| listen_fault(error))?;
-    match Sockets::new(rt.alloc(), rt, listener, rt, limit, longest_search) {
-        Ok(sockets) => {
+    match connection::listen_at(rt, rt.alloc(), address, rt, limit, longest_search) {
+        Ok((sockets, taken)) => {
             println!(rt; "listening {taken}")?;
             Ok(sockets)
         }
         Err(error) => Err(listen_fault(error)),
     }
-}
-
-/// A listener on an address, and the address with its port.
-fn bound<R: Net>(rt: &R, address: &str) -> io::Result<(R::Listener, SocketAddr)> {
-    let listener = TcpListener::bind(rt, address)?;
-    let taken = listener.local_addr()?;
-    Ok((listener, taken))
 }

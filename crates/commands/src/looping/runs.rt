@@ -8,7 +8,7 @@ use crate::looping::faults::{LoopFault, unheard, unprinted};
 use crate::looping::own::{OwnProvider, OwnReader, OwnStreams};
 use crate::looping::reports::Reports;
 use crate::looping::views::print_views;
-use connection::{Listen, SEARCH_SECONDS, Sockets};
+use connection::{Listen, SEARCH_SECONDS, Sockets, listen_at};
 use connector_core::Connector;
 use journal_core::Journal;
 use provider_core::Provider;
@@ -17,7 +17,7 @@ use scim_client::ScimService;
 use std::alloc::Global;
 use std::cell::RefCell;
 use std::io::{Eprint, Read, Write};
-use std::net::{Net, OpenListener, TcpListener};
+use std::net::{Net, TcpListener};
 use std::time::{Clock, Duration};
 use storage::StoredRows;
 use timed_streams::TimedHandle;
@@ -38,7 +38,7 @@ pub fn run_loop<'a, N: Net + Clock + Eprint, R: StoredRows + 'a, J: Journal, W: 
     sources: &Sources,
     out: &mut W,
 ) -> Result<Outcome, LoopFault>
-    ensures { Loops ⟦<OwnReader<'a, 'a, 'a, N, Sockets<'a, N::Listener, N>, R> as Read>⟧.remaining
+    ensures { Loops ⟦<OwnReader<'a, 'a, 'a, N, Sockets<'a, TcpListener, N>, R> as Read>⟧.remaining
         ⟦<TimedHandle<'a, N::Stream, N> as Write>⟧.contents J.Journal service.now sources.now
         connector.old connector.new (0 < R.faults provider.new) result }
 {
@@ -96,7 +96,7 @@ fn carry_here<'a, N: Net + Clock + Eprint, R: StoredRows + 'a, J: Journal, W: Wr
     out: &mut W,
 ) -> Result<Outcome, RunFault>
     ensures { CarriesHere
-        ⟦<OwnReader<'a, 'a, 'a, N, Sockets<'a, N::Listener, N>, R> as Read>⟧.remaining
+        ⟦<OwnReader<'a, 'a, 'a, N, Sockets<'a, TcpListener, N>, R> as Read>⟧.remaining
         ⟦<TimedHandle<'a, N::Stream, N> as Write>⟧.contents J.Journal service.now sources.now
         connector.old connector.new result }
 {
@@ -173,20 +173,11 @@ fn carry_to<
 fn listen<'a, N: Net + Clock + Eprint>(
     rt: &'a N,
     alloc: Global,
-) -> Result<(Sockets<'a, N::Listener, N>, String), RunFault> {
-    let listener = TcpListener::bind(rt, OWN_ADDRESS).map_err(unheard)?;
-    let address = address_of(alloc, &listener)?;
+) -> Result<(Sockets<'a, TcpListener, N>, String), RunFault> {
     let limit = Duration::from_secs(CONNECTION_SECONDS);
     let longest_search = Duration::from_secs(u64::from(SEARCH_SECONDS));
-    let mut sockets = Sockets::new(alloc, rt, listener, rt, limit, longest_search).map_err(
-        unheard,
-    )?;
+    let opened = listen_at(rt, alloc, OWN_ADDRESS, rt, limit, longest_search);
+    let (mut sockets, taken) = opened.map_err(unheard)?;
     sockets.serve_own_thread();
-    Ok((sockets, address))
-}
-
-/// The address of a listener, HOST:PORT.
-fn address_of<L: OpenListener>(alloc: Global, listener: &L) -> Result<String, RunFault> {
-    let address = listener.local_addr().map_err(unheard)?;
-    Ok(format!(in alloc; "{address}")?)
+    Ok((sockets, format!(in alloc; "{taken}")?))
 }
