@@ -1,6 +1,6 @@
 -- Looks at connections in turn.
 use Rattle.std.proofs.Common.{inl, inr, ◌≡◌, ◌⊎◌, ◌+◌, ◌∷◌, [], ◌≤◌, ◌<◌, ℕ, suc, List, Option, Some, None, Bool, true, false, length, refl, sym, ap, subst, ◌∙◌, drop, slice_index_or, slice_set, arith}
-use Rattle.std.specs.Prelude.{if◌then◌else◌, OnSome}
+use Rattle.std.specs.Prelude.{if◌then◌else◌}
 use Rattle.std.specs.List.{remove}
 use Rattle.std.proofs.lemmas.Bool.{cases_lt}
 use Rattle.std.proofs.lemmas.List.{get_or-set_other, get_or-set_same, get_or_default, get_or_read, length-set}
@@ -16,7 +16,8 @@ use Rattle.connection.specs.declared.held.Arrival.TheVariants.{Bytes, Nothing, L
 use Rattle.connection.specs.declared.received.Received.{Received}
 use Rattle.connection.specs.declared.waiting.Waiting.{Waiting}
 use Rattle.connection.specs.Arriving.{Waits}
-use Rattle.connection.specs.Holding.{ArePassed, GivesUp, HasCome, IsDue, IsLookedAtBy, IsNoted, IsPassed, IsSame, Looks, LooksAt, MovesUp, Notes, NotesAt, TakesFirst, is_time, looks_before, size_of}
+use Rattle.connection.specs.Holding.{ArePassed, GivesUp, HasCome, IsDue, IsLookedAtBy, IsNoted, IsPassed, IsSame, Looks, LooksAt, MovesUp, Notes, NotesAt, TakesFirst, is_time, looks_before}
+use Rattle.connection.specs.Memory.{size_of}
 
 some_of : {X : Type 0} (n : ℕ) (xs : List X) → n < length xs → X
 some_of n [] there = absurd (let none : n < 0 = there in omega (arith, none))
@@ -101,13 +102,12 @@ module _ {S : Type 0} (remaining : S → Option (List ℕ)) (now : Instant) wher
   -- the next one can be served, and was taken out
   pub took_out : (most first place looks end : ℕ) (old mid seen new : List (Held S)) (taken : Option (Held S)) → first ≤ place
       → place < end → place < length old → looks < most → SoFar first place looks old mid → LooksAt remaining place mid seen true
-      → ((d : Held S) → taken ≡ Some (slice_index_or seen place d)) → OnSome taken (new ≡ remove seen place)
+      → ((d : Held S) → taken ≡ Some (slice_index_or seen place d)) → new ≡ remove seen place
       → TakesFirst remaining now most first end place old new taken
   took_out most first place looks end old mid seen new taken begun inside there few before found is are =
       let x : Held S = some_of place old there in
       let held : Held S = slice_index_or seen place x in
       let within : place < length seen = omega (arith, found.length, before.length, there) in
-      let rest : new ≡ remove seen place = subst (λ (t : Option (Held S)). OnSome t (new ≡ remove seen place)) (is x) are in
       let earlier = λ (n : ℕ) (d : Held S) (below : n < place).
       get_or-remove_below seen place d n below within ∙ found.others n d (λ same. absurd (omega (arith, below, same))) in
       let body : TakesFirst remaining now most first end place old (remove seen place) (Some held) = (
@@ -128,7 +128,7 @@ module _ {S : Type 0} (remaining : S → Option (List ℕ)) (now : Instant) wher
         length-remove seen place within ∙ found.length ∙ before.length,
       ) in
       subst (λ (t : Option (Held S)). TakesFirst remaining now most first end place old new t) (sym (is x))
-      (subst (λ (l : List (Held S)). TakesFirst remaining now most first end place old l (Some held)) (sym rest) body)
+      (subst (λ (l : List (Held S)). TakesFirst remaining now most first end place old l (Some held)) (sym are) body)
 
   -- all of the round were passed
   pub passed_all : (most first place looks end : ℕ) (old new : List (Held S)) → first ≤ place → place ≡ end → looks ≤ most

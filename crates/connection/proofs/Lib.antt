@@ -7,4 +7,5 @@ mod RoundLemmas
 mod StreamLemmas
 mod TurnLemmas
 mod LineLemmas
+mod MemoryLemmas
 mod ArrivingLemmas

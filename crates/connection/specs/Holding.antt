@@ -1,7 +1,7 @@
 -- Connections that are held until their requests are whole: what a look does, which one is served next, and which one
 -- makes room.
 use Rattle.std.specs.Prelude.{◌≡◌, ◌≢◌, ◌⊎◌, ◌+◌, ◌-◌, ◌≤◌, ◌<◌, ℕ, suc, Bool, IsTrue, List, [], ◌∷◌, ◌++◌, ⊤}
-use Rattle.std.specs.Prelude.{false, true, length, min, take, Option, Some, None, if◌then◌else◌, nat_lt, nat_le, vec_capacity}
+use Rattle.std.specs.Prelude.{false, true, length, min, take, Option, Some, None, if◌then◌else◌, nat_lt, nat_le}
 use Rattle.std.specs.List.{remove, slice_index_or, sum_by}
 use Rattle.std.specs.VecDeque.{deque_len}
 use Rattle.std.specs.Io.KnownBytes.{Keeps, prepend_known}
@@ -14,6 +14,7 @@ use Rattle.connection.specs.declared.received.Received.{Received}
 use Rattle.connection.specs.declared.waiting.Waiting.{Waiting}
 use Rattle.connection.specs.Arriving.{Waits}
 use Rattle.connection.specs.Limits.{granted}
+use Rattle.connection.specs.Memory.{size_of}
 
 -- ---- one look
 
@@ -203,14 +204,6 @@ Refuses most held now old new is_tight =
     ⊎ GivesUpFor held now old new
 
 -- ---- the memory of all of them
-
--- how many bytes of memory a request takes
-abbrev pub size_of : {S : Type 0} → Held S → ℕ
-size_of held = vec_capacity held.received.bytes
-
--- how many the requests of these connections take
-abbrev pub memory_of : {S : Type 0} → List (Held S) → ℕ
-memory_of connections = sum_by (λ held. size_of held) connections
 
 -- no request takes more memory than the one at this place
 pub record IsLargest {S : Type 0} (connections : List (Held S)) (place : ℕ) : Type 0 where

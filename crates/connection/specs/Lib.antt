@@ -7,6 +7,7 @@ pub mod Requests
 pub mod Streams
 pub mod Accepting
 pub mod Limits
+pub mod Memory
 pub mod Holding
 pub mod Rounds
 pub mod Lines

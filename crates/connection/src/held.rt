@@ -1,7 +1,8 @@
 //! Connections whose requests aren't whole yet.
 ghost use Rattle.std.specs.Prelude.{◌≡◌, ◌≤◌, [], IfOk};
 ghost use Rattle.std.specs.Io.KnownBytes.{Keeps, prepend_known};
-ghost use Rattle.connection.specs.Holding.{HasCome, IsLookedAtBy, IsSame, Looks, is_time, size_of};
+ghost use Rattle.connection.specs.Holding.{HasCome, IsLookedAtBy, IsSame, Looks, is_time};
+ghost use Rattle.connection.specs.Memory.{size_of};
 
 use crate::ahead::AheadReader;
 use crate::late::LateWriter;

@@ -1,9 +1,6 @@
 //! All connections whose requests aren't whole yet.
-ghost use Rattle.std.specs.Prelude.{◌≡◌, ◌≤◌, ◌<◌, ◌+◌, ◌↔◌, ◌⊎◌, [], IsTrue};
-ghost use Rattle.std.specs.Bool.{OnFalse, OnTrue};
-ghost use Rattle.std.specs.List.{slice_index_or};
-ghost use Rattle.std.specs.VecDeque.{deque_capacity, deque_len};
-ghost use Rattle.connection.specs.Holding.{GivesUp, GivesUpLargest, HasRoom, Holds, IsDue, IsLargest, Leaves, LooksAt, Notes, NotesAt, Refuses, Takes, TakesFirst, count_of, end_of, first_of, is_time, memory_of, round_end, size_of};
+ghost use Rattle.std.specs.Prelude.{◌≡◌};
+ghost use Rattle.connection.specs.Memory.{memory_of};
 
 use crate::held::{Held, MOST_READS};
 use crate::limits::{MOST_GROWTH, MOST_HELD, MOST_LOOKS, MOST_MEMORY, granted};
@@ -22,18 +19,29 @@ const MOST_BEFORE: usize = MOST_MEMORY - MOST_GROWTH;
 #[derive(Drop)]
 pub(crate) struct Waiting<S: Drop> {
     connections: VecDeque<Held<S>>,
+    /// How many bytes of memory their requests take.
+    size: u128,
     /// The place of the connection that is passed next.
     next: usize,
     /// The place where the round ends: those behind it joined since it began.
     end: usize,
+    ghost counted: { size ≡ memory_of connections.items },
 }
 
 impl<S: Read + AsRawFd + Drop> Waiting<S> {
+    ghost use Rattle.std.specs.Prelude.{◌≤◌, ◌<◌, ◌+◌, ◌↔◌, ◌⊎◌, [], IsSome, IsTrue};
+    ghost use Rattle.std.specs.Bool.{OnFalse, OnTrue};
+    ghost use Rattle.std.specs.List.{remove, slice_index_or};
+    ghost use Rattle.std.specs.VecDeque.{deque_capacity, deque_len};
+    ghost use Rattle.connection.specs.Holding.{GivesUp, GivesUpLargest, HasRoom, Holds, IsDue, IsLargest, Leaves, LooksAt, Notes, NotesAt, Refuses, StaysThere, Takes, TakesFirst, count_of, end_of, first_of, is_time, round_end};
+    ghost use Rattle.connection.specs.Memory.{size_of};
+
     pub(crate) fn new(alloc: Global) -> Self
         ensures { result.connections.items ≡ [] }
     {
         Waiting {
             connections: VecDeque::new(alloc),
+            size: 0,
             next: 0,
             end: 0,
         }
@@ -96,7 +104,9 @@ impl<S: Read + AsRawFd + Drop> Waiting<S> {
         if !self.is_oldest_due(now) {
             return false;
         }
-        let _oldest = self.connections.pop_front();
+        if let Some(oldest) = self.connections.pop_front() {
+            self.size -= oldest.size() as u128;
+        }
         self.next = self.next.saturating_sub(1);
         self.end = self.end.saturating_sub(1);
         true
@@ -113,13 +123,30 @@ impl<S: Read + AsRawFd + Drop> Waiting<S> {
             deque_len self.new.connections ≤ MOST_HELD }
     {
         if !self.is_full() {
-            return self.connections.push_back(held).is_ok();
+            return self.push(held);
         }
         if self.give_up_oldest(now) {
-            let kept = self.connections.push_back(held);
-            prove!(kept.is_ok());
+            let is_held = self.push(held);
+            prove!(is_held);
         }
         false
+    }
+
+    /// Holds a connection behind the others, if there is memory for it. It returns whether there is.
+    fn push(&mut self, held: Held<S>) -> bool
+        ensures kept { OnTrue result (Holds held self.old self.new) }
+        ensures refused { OnFalse result
+            ((self.new.connections.items ≡ self.old.connections.items)
+            × StaysThere self.old self.new
+            × (deque_capacity self.old.connections ≤ deque_len self.old.connections)) }
+        ensures bound { deque_len self.new.connections ≤ deque_len self.old.connections + 1 }
+    {
+        let size = held.size() as u128;
+        let is_held = self.connections.push_back(held).is_ok();
+        if is_held {
+            self.size += size;
+        }
+        is_held
     }
 
     /// Takes out the next connection that can be served. It goes on with the round, or begins another if that is over.
@@ -171,7 +198,7 @@ impl<S: Read + AsRawFd + Drop> Waiting<S> {
                 looks += 1;
                 if self.is_ready_at(place, watch, alloc, now) {
                     self.end = end - 1;
-                    return self.connections.remove(place);
+                    return self.take_out(place);
                 }
             }
         }
@@ -241,7 +268,11 @@ impl<S: Read + AsRawFd + Drop> Waiting<S> {
         ensures next { self.new.next ≡ self.old.next }
         ensures end { self.new.end ≡ self.old.end }
     {
-        self.connections[place].is_ready(watch, alloc, MOST_READS, now)
+        let held = &mut self.connections[place];
+        let before = held.size() as u128;
+        let is_ready = held.is_ready(watch, alloc, MOST_READS, now);
+        self.size = self.size - before + held.size() as u128;
+        is_ready
     }
 
     /// Gives up the connection with the largest request, however old it is, if the requests of all of them and those of
@@ -266,11 +297,7 @@ impl<S: Read + AsRawFd + Drop> Waiting<S> {
     fn takes_too_much(&self, others: usize) -> bool
         ensures { IsTrue result ↔ (MOST_BEFORE < others + memory_of self.now.connections.items) }
     {
-        let mut size = others;
-        for place in 0..self.connections.len() {
-            size = size.saturating_add(self.connections[place].size());
-        }
-        size > MOST_BEFORE
+        self.size.saturating_add(others as u128) > MOST_BEFORE as u128
     }
 
     /// The place of the largest request, and of several the oldest.
@@ -301,12 +328,25 @@ impl<S: Read + AsRawFd + Drop> Waiting<S> {
         requires { place < deque_len self.old.connections }
         ensures { Leaves place self.old self.new }
     {
-        let _gone = self.connections.remove(place);
+        let _gone = self.take_out(place);
         if place < self.next {
             self.next -= 1;
         }
         if place < self.end {
             self.end -= 1;
         }
+    }
+
+    /// Takes out the connection at a place.
+    fn take_out(&mut self, place: usize) -> Option<Held<S>>
+        requires { place < deque_len self.old.connections }
+        ensures value { (d : _) → result ≡ Some (slice_index_or self.old.connections.items place d) }
+        ensures one { count_of result ≡ 1 }
+        ensures items { self.new.connections.items ≡ remove self.old.connections.items place }
+        ensures stays { StaysThere self.old self.new }
+    {
+        let held = self.connections.remove(place)?;
+        self.size -= held.size() as u128;
+        Some(held)
     }
 }

@@ -53,15 +53,16 @@ returns-then-is_ready_at-clause-takes g c =
     let old = c.args.self.now.connections.items in
     let mid = c.loop-place.self.connections.items in
     let seen = c.is_ready_at.new.self.connections.items in
-    let new = c.remove.new.self.items in
+    let new = c.take_out.new.self.connections.items in
     let before = c.loop-place.invariant in
     let there : place < length old = omega (arith, c.loop-place-test.true, c.requires.end) in
     let few : looks < 4 = omega (arith, before.few, c.if-looks-eq-MOST_LOOKS.false) in
     let found : LooksAt g.S.Read.remaining place mid seen true =
     subst (λ (ready : Bool). LooksAt g.S.Read.remaining place mid seen ready) c.if-is_ready_at.true c.is_ready_at.ensures.looks in
-    subst (λ (next : ℕ). TakesFirst g.S.Read.remaining now 4 first end next old new c.remove.result) (sym c.is_ready_at.ensures.next)
-    (took_out g.S.Read.remaining now 4 first place looks end old mid seen new c.remove.result c.loop-place.auto.place c.loop-place-test.true
-    there few before.so_far found (λ d. c.remove.ensures.succeeds d (omega (arith, there, before.so_far.length, found.length))) c.remove.ensures.items)
+    subst (λ (next : ℕ). TakesFirst g.S.Read.remaining now 4 first end next old new c.take_out.result)
+    (sym (c.take_out.ensures.stays.next ∙ c.is_ready_at.ensures.next))
+    (took_out g.S.Read.remaining now 4 first place looks end old mid seen new c.take_out.result c.loop-place.auto.place
+    c.loop-place-test.true there few before.so_far found c.take_out.ensures.value c.take_out.ensures.items)
 
 pub returns-clause-takes : goal.returns-clause-takes
 returns-clause-takes g c =
