@@ -1,8 +1,9 @@
 -- A whole head ends with an empty line that isn't among the first ones.
-use Rattle.std.proofs.Common.{◌≡◌, ℕ, ◌+◌, zero, suc, ◌<◌, Bool, true, false, List, [], ◌∷◌, ◌++◌, length, take, get_or, refl, sym, ap, subst, ◌∙◌, append_assoc, arith}
+use Rattle.std.proofs.Common.{◌≡◌, ℕ, ◌-◌, zero, suc, ◌<◌, Bool, true, false, List, [], ◌∷◌, ◌++◌, length, take, drop, get_or, refl, sym, ap, subst, ◌∙◌, append_assoc, arith}
 use Rattle.std.specs.Prelude.{◌==◌, ◌||◌, if◌then◌else◌, ⊤}
 use Rattle.std.specs.List.{flat_map}
 use Rattle.std.proofs.lemmas.Bool.{eqb-true}
+use Rattle.std.proofs.lemmas.List.{length-drop, take-append-drop, take_all}
 use Rattle.std.proofs.lemmas.List.Elements.{All-head}
 use Rattle.httparse.specs.Ascii.{colon, space}
 use Rattle.httparse.specs.Grammar.{IsRequestHead, IsToken, Field, RequestHead, LineEnd, crlf, lf, is_token_byte, print_blank, print_end, print_field, print_request, print_section, print_version}
@@ -19,21 +20,34 @@ pub lines_append : (l : HeadLines) (xs ys : List ℕ) → lines_after l (xs ++ y
 lines_append l [] ys = refl
 lines_append l (x ∷ xs) ys = lines_append (line_after l x) xs ys
 
-more : (l : HeadLines) (xs : List ℕ) (i : ℕ) → i < length xs
-    → lines_after l (take (suc i) xs) ≡ line_after (lines_after l (take i xs)) (get_or xs i 0)
-more l [] i there = absurd (let none : i < 0 = there in omega (arith, none))
-more l (x ∷ xs) zero there = refl
-more l (x ∷ xs) (suc i) there = more (line_after l x) xs i (omega (arith, there))
-
-pub one_more : (l : HeadLines) (xs : List ℕ) (i : ℕ) → i < length xs
-    → lines_after l (take (i + 1) xs) ≡ line_after (lines_after l (take i xs)) (get_or xs i 0)
-one_more l xs i there =
-    let next : i + 1 ≡ suc i = omega arith in
-    ap (λ (n : ℕ). lines_after l (take n xs)) next ∙ more l xs i there
-
 pub ended : (xs : List ℕ) → lines_after Ended xs ≡ Ended
 ended [] = refl
 ended (x ∷ xs) = ended xs
+
+-- ---- bytes that change nothing
+
+false_of : (b : Bool) → ((b ≡ true) → ⊥) → b ≡ false
+false_of true never = absurd (never refl)
+false_of false never = refl
+
+-- within a line, as long as it doesn't end
+pub inside_stays : (xs : List ℕ) (n : ℕ) → ((k : ℕ) → k < n → (get_or xs k 0 == 10 ≡ true) → ⊥) → lines_after Inside (take n xs) ≡ Inside
+inside_stays xs zero none = refl
+inside_stays [] (suc n) none = refl
+inside_stays (x ∷ xs) (suc n) none =
+    let other : (x == 10) ≡ false = false_of (x == 10) (none zero (omega arith)) in
+    ap (λ (t : Bool). lines_after (if t then Start else Inside) (take n xs)) other
+    ∙ inside_stays xs n (λ k below. none (suc k) (omega (arith, below)))
+
+-- a slice up to the end
+pub to_the_end : (n : ℕ) (xs : List ℕ) → take (length xs - n) (drop n xs) ≡ drop n xs
+to_the_end n xs = take_all (length xs - n) (drop n xs) (omega (arith, length-drop n xs))
+
+-- bytes behind some that change nothing
+pub unchanged_before : (l : HeadLines) (n : ℕ) (xs : List ℕ) → lines_after l (take n xs) ≡ l → lines_after l xs ≡ lines_after l (drop n xs)
+unchanged_before l n xs same =
+    ap (lines_after l) (sym (take-append-drop n xs)) ∙ lines_append l (take n xs) (drop n xs)
+    ∙ ap (λ (reached : HeadLines). lines_after reached (drop n xs)) same
 
 -- ---- a line has begun
 

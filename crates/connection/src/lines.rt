@@ -1,7 +1,9 @@
 //! Where a head ends, by its line ends alone.
-ghost use Rattle.std.specs.Prelude.{◌≡◌, ◌↔◌, IsTrue};
+ghost use Rattle.std.specs.Prelude.{◌≡◌, ◌≤◌, ◌↔◌, IsTrue, length, take};
 ghost use Rattle.connection.specs.Lines as spec;
 ghost use Rattle.connection.specs.declared.lines.HeadLines.TheVariants.{Ended};
+
+use memchr::memchr;
 
 /// How far the lines of a head are that arrives. An empty line ends it, after its first line.
 #[derive(Clone, Copy)]
@@ -68,18 +70,32 @@ impl HeadLines {
     {
         matches!(self, HeadLines::Ended)
     }
+
+    /// How many of these bytes, from the first on, leave the lines as they are: within a line those before its end.
+    fn unchanged_by(self, bytes: &[u8]) -> usize
+        ensures bound { result ≤ length bytes.now }
+        ensures same { spec.lines_after self (take result bytes.now) ≡ self }
+    {
+        match self {
+            HeadLines::Inside => match memchr(b'\n', bytes) {
+                Some(place) => place,
+                None => bytes.len(),
+            }
+            HeadLines::Ended => bytes.len(),
+            HeadLines::Blank | HeadLines::Start | HeadLines::Return => 0,
+        }
+    }
 }
 
 /// How far the lines are after these bytes.
 pub(crate) fn lines_after(lines: HeadLines, bytes: &[u8]) -> HeadLines
     ensures { result ≡ spec.lines_after lines bytes.now }
 {
-    if lines.have_ended() {
-        return lines;
-    }
     let mut reached = lines;
-    for byte in bytes {
+    let mut rest = bytes;
+    while let Some((byte, more)) = rest[reached.unchanged_by(rest)..].split_first() {
         reached = reached.after(*byte);
+        rest = more;
     }
     reached
 }

@@ -1,7 +1,10 @@
-use Rattle.std.proofs.Common.{◌≡◌, take}
+use Rattle.std.proofs.Common.{◌≡◌, length}
 use Rattle.connection.specs.Lines as spec
 use Rattle.connection.proofs.lines.lines_after.Given as goal
 
--- the bytes so far were followed
+-- what is left is followed as all are
 abbrev pub invariant-loop-byte : goal.invariant-loop-byte
-invariant-loop-byte l = l.reached ≡ spec.lines_after l.fn.lines (take l.byte-index l.bytes)
+invariant-loop-byte l = spec.lines_after l.reached l.rest ≡ spec.lines_after l.fn.lines l.bytes
+
+abbrev pub decreases-loop-byte : goal.decreases-loop-byte
+decreases-loop-byte l = length l.rest
