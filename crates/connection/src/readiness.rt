@@ -58,8 +58,9 @@ pub(crate) fn extent_of(alloc: Global, bytes: &[u8]) -> Extent
 fn padded(alloc: Global, bytes: &[u8]) -> Result<Vec<u8>, AllocError>
     ensures { IfOk result (λ padded. padded.items ≡ bytes.now ++ replicate body_limit 0) }
 {
-    let mut padded = Vec::from_slice(alloc, bytes)?;
-    padded.resize(bytes.len() + BODY_LIMIT as usize, 0)?;
+    let mut padded = Vec::with_capacity(alloc, bytes.len() + BODY_LIMIT as usize)?;
+    padded.extend_from_slice(bytes)?;
+    padded.extend_from_slice(&[0; BODY_LIMIT as usize])?;
     Ok(padded)
 }
 
