@@ -32,6 +32,9 @@ pub(crate) const MOST_IN_A_ROW: u32 = 16;
 /// The most connections whose whole requests wait because all rows are read for them.
 pub(crate) const MOST_SEARCHES: usize = 512;
 
+/// The most bytes of memory that these requests take.
+pub(crate) const MOST_SEARCH_MEMORY: usize = 6_291_456;
+
 /// How many of these, that were served last, decide whose is next.
 pub(crate) const LATEST_SEARCHES: usize = 32;
 

@@ -1,12 +1,10 @@
 //! Requests for which all rows are read.
-ghost use Rattle.std.specs.Prelude.{◌≡◌, ◌<◌, [], count_by};
-ghost use Rattle.std.specs.Bool.{OnFalse, OnTrue};
-ghost use Rattle.std.specs.List.{slice_index_or};
-ghost use Rattle.std.specs.VecDeque.{deque_len};
-ghost use Rattle.connection.specs.Searches.{Adds, HasNoted, IsNext, TakesNext, is_same, served_of};
+ghost use Rattle.std.specs.Prelude.{◌≡◌, ◌≤◌};
+ghost use Rattle.connection.specs.Memory.{memory_of};
+ghost use Rattle.connection.specs.declared.limits.TheConstants.{MOST_SEARCH_MEMORY};
 
 use crate::held::Held;
-use crate::limits::{LATEST_SEARCHES, MOST_SEARCHES};
+use crate::limits::{LATEST_SEARCHES, MOST_SEARCH_MEMORY, MOST_SEARCHES};
 use http_text::{Input, read_request};
 use provider_core::reads_all_rows;
 use scim_http::meaning;
@@ -21,17 +19,28 @@ use std::os::fd::AsRawFd;
 #[derive(Drop)]
 pub(crate) struct Searches<S: Drop> {
     waiting: VecDeque<Held<S>>,
+    /// How many bytes of memory their requests take.
+    size: usize,
     /// The addresses of the last ones that were served.
     served: VecDeque<IpAddr>,
+    ghost counted: { size ≡ memory_of waiting.items },
+    ghost bounded: { size ≤ MOST_SEARCH_MEMORY },
 }
 
 impl<S: Read + AsRawFd + Drop> Searches<S> {
+    ghost use Rattle.std.specs.Prelude.{◌<◌, [], count_by};
+    ghost use Rattle.std.specs.Bool.{OnFalse, OnTrue};
+    ghost use Rattle.std.specs.List.{slice_index_or};
+    ghost use Rattle.std.specs.VecDeque.{deque_len};
+    ghost use Rattle.connection.specs.Searches.{Adds, HasNoted, IsNext, TakesNext, is_same, served_of};
+
     pub(crate) fn new(alloc: Global) -> Self
         ensures waiting { result.waiting.items ≡ [] }
         ensures served { result.served.items ≡ [] }
     {
         Searches {
             waiting: VecDeque::new(alloc),
+            size: 0,
             served: VecDeque::new(alloc),
         }
     }
@@ -44,22 +53,29 @@ impl<S: Read + AsRawFd + Drop> Searches<S> {
     }
 
     /// How many bytes of memory their requests take.
-    pub(crate) fn size(&self) -> usize {
-        let mut size: usize = 0;
-        for held in self.waiting.iter() {
-            size = size.saturating_add(held.size());
-        }
-        size
+    pub(crate) fn size(&self) -> usize
+        ensures value { result ≡ memory_of self.now.waiting.items }
+        ensures bound { result ≤ MOST_SEARCH_MEMORY }
+    {
+        self.size
     }
 
-    /// Adds one behind the others. It returns whether there was a place for it.
+    /// Adds one behind the others. It returns whether there was a place and memory for it.
     pub(crate) fn add(&mut self, mut held: Held<S>) -> bool
         ensures added { OnTrue result (Adds held self.old self.new) }
         ensures kept { OnFalse result (self.new.waiting.items ≡ self.old.waiting.items) }
         ensures served { self.new.served ≡ self.old.served }
     {
         held.shrink();
-        self.waiting.len() < MOST_SEARCHES && self.waiting.push_back(held).is_ok()
+        let size = held.size();
+        if self.waiting.len() >= MOST_SEARCHES || size > MOST_SEARCH_MEMORY - self.size {
+            return false;
+        }
+        let is_added = self.waiting.push_back(held).is_ok();
+        if is_added {
+            self.size += size;
+        }
+        is_added
     }
 
     /// Takes out the next one: of the client of which fewest were served lately, and of several the first.
@@ -71,6 +87,7 @@ impl<S: Read + AsRawFd + Drop> Searches<S> {
         }
         let place = self.fairest();
         let held = self.waiting.remove(place)?;
+        self.size -= held.size();
         self.note(held.peer());
         Some(held)
     }
