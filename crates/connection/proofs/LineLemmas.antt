@@ -1,9 +1,9 @@
 -- A whole head ends with an empty line that isn't among the first ones.
-use Rattle.std.proofs.Common.{◌≡◌, ℕ, ◌-◌, zero, suc, ◌<◌, Bool, true, false, List, [], ◌∷◌, ◌++◌, length, take, drop, get_or, refl, sym, ap, subst, ◌∙◌, append_assoc, arith}
+use Rattle.std.proofs.Common.{inl, inr, ◌⊎◌, ◌+◌, ◌≡◌, ℕ, ◌-◌, zero, suc, ◌<◌, Bool, true, false, List, [], ◌∷◌, ◌++◌, length, take, drop, get_or, refl, sym, ap, subst, ◌∙◌, append_assoc, arith}
 use Rattle.std.specs.Prelude.{◌==◌, ◌||◌, if◌then◌else◌, ⊤}
 use Rattle.std.specs.List.{flat_map}
 use Rattle.std.proofs.lemmas.Bool.{eqb-true}
-use Rattle.std.proofs.lemmas.List.{length-drop, take-append-drop, take_all}
+use Rattle.std.proofs.lemmas.List.{length-drop, take-append-drop, take_all, take_more}
 use Rattle.std.proofs.lemmas.List.Elements.{All-head}
 use Rattle.httparse.specs.Ascii.{colon, space}
 use Rattle.httparse.specs.Grammar.{IsRequestHead, IsToken, Field, RequestHead, LineEnd, crlf, lf, is_token_byte, print_blank, print_end, print_field, print_request, print_section, print_version}
@@ -38,6 +38,18 @@ inside_stays (x ∷ xs) (suc n) none =
     let other : (x == 10) ≡ false = false_of (x == 10) (none zero (omega arith)) in
     ap (λ (t : Bool). lines_after (if t then Start else Inside) (take n xs)) other
     ∙ inside_stays xs n (λ k below. none (suc k) (omega (arith, below)))
+
+-- one more line end before the first line
+pub blank_stays_by : (xs : List ℕ) (n : ℕ) → n < length xs → lines_after Blank (take n xs) ≡ Blank
+    → (get_or xs n 0 ≡ 10) ⊎ (get_or xs n 0 ≡ 13) → lines_after Blank (take (n + 1) xs) ≡ Blank
+blank_stays_by xs n there before is =
+    ap (lines_after Blank) (take_more xs n 0 there)
+    ∙ lines_append Blank (take n xs) (get_or xs n 0 ∷ [])
+    ∙ ap (λ (l : HeadLines). line_after l (get_or xs n 0)) before
+    ∙ elim is [
+      | inl feed ↦ ap (line_after Blank) feed
+      | inr return ↦ ap (line_after Blank) return
+    ]
 
 -- a slice up to the end
 pub to_the_end : (n : ℕ) (xs : List ℕ) → take (length xs - n) (drop n xs) ≡ drop n xs

@@ -1,7 +1,7 @@
 //! Where a head ends, by its line ends alone.
 ghost use Rattle.std.specs.Prelude.{◌≡◌, ◌≤◌, ◌↔◌, IsTrue, length, take};
 ghost use Rattle.connection.specs.Lines as spec;
-ghost use Rattle.connection.specs.declared.lines.HeadLines.TheVariants.{Ended};
+ghost use Rattle.connection.specs.declared.lines.HeadLines.TheVariants.{Blank, Ended};
 
 use memchr::memchr;
 
@@ -71,7 +71,8 @@ impl HeadLines {
         matches!(self, HeadLines::Ended)
     }
 
-    /// How many of these bytes, from the first on, leave the lines as they are: within a line those before its end.
+    /// How many of these bytes, from the first on, leave the lines as they are: within a line those before its end, and
+    /// before the first line all line ends.
     fn unchanged_by(self, bytes: &[u8]) -> usize
         ensures bound { result ≤ length bytes.now }
         ensures same { spec.lines_after self (take result bytes.now) ≡ self }
@@ -82,9 +83,24 @@ impl HeadLines {
                 None => bytes.len(),
             }
             HeadLines::Ended => bytes.len(),
-            HeadLines::Blank | HeadLines::Start | HeadLines::Return => 0,
+            HeadLines::Blank => line_ends(bytes),
+            HeadLines::Start | HeadLines::Return => 0,
         }
     }
+}
+
+/// How many line ends these bytes begin with.
+fn line_ends(bytes: &[u8]) -> usize
+    ensures bound { result ≤ length bytes.now }
+    ensures same { spec.lines_after Blank (take result bytes.now) ≡ Blank }
+{
+    for place in 0..bytes.len() {
+        let byte = bytes[place];
+        if byte != b'\n' && byte != b'\r' {
+            return place;
+        }
+    }
+    bytes.len()
 }
 
 /// How far the lines are after these bytes.
