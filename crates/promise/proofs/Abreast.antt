@@ -13,23 +13,24 @@ use Rattle.provisioning.specs.Openings.{Opening}
 use Rattle.provisioning.specs.Orders.{IsPushOrder}
 use Rattle.provisioning.specs.Leavers.{is_switched_off}
 use Rattle.provisioning.specs.Runs.{Done}
-use Rattle.provisioning.specs.Tracks.{Advances, Begins, Closes, faulted, fresh}
-use Rattle.provisioning.specs.Windows.{AllMoved, AreMoves, Breaks, Causes, IsBegun, IsContinued, IsMove, IsMoved, IsReported, IsWith, LooksThrough, PartMoved, Point, PushesAbreast, Scene, at_start, name_of, names_in}
+use Rattle.provisioning.specs.Tracks.{Advances, Begins, Closes, faulted, fresh, put_off}
+use Rattle.provisioning.specs.Windows.{AllMoved, AreMoves, Breaks, Causes, IsBegun, IsContinued, IsDelayed, IsMove, IsMoved, IsReported, IsResumed, IsWith, LooksThrough, PartMoved, Point, PushesAbreast, Scene, at_start, name_of, names_in}
 use Rattle.provisioning.specs.declared.faults.RunFault.{RunFault}
 use Rattle.provisioning.specs.declared.pushing.Tally.{Tally}
 use Rattle.provisioning.specs.declared.records.Standing.{Standing}
 use Rattle.provisioning.specs.declared.tracks.Account.{Account}
 use Rattle.provisioning.specs.declared.tracks.Track.{Track}
-use Rattle.provisioning.specs.declared.tracks.Track.TheVariants.{UnderWay, Done as IsDone}
+use Rattle.provisioning.specs.declared.tracks.Track.TheVariants.{UnderWay, Delayed, Done as IsDone}
 use Rattle.promise.specs.Abreast.{AbreastDoes, IsPushAbreast}
 use Rattle.promise.proofs.Bags.{AreApart, Holds, all_front, all_mapped, apart_all, apart_one, holds_between, holds_longer, holds_mapped, holds_of}
-use Rattle.promise.proofs.Flights.{Begun, Makes, SetOut, begun, heard, makes_done, makes_end, makes_in, makes_out, makes_skip, put_in, set_out, take_out}
+use Rattle.promise.proofs.Flights.{Begun, Makes, SetOut, begun, heard, makes_done, makes_end, makes_in, makes_out, makes_skip, makes_waits, makes_without, put_in, set_out, take_out}
 use Rattle.promise.proofs.Names.{apart_back, apart_front, keys_apart, parted}
 
 -- ---- the names of the records that aren't reported
 
 begun_name : {I O : Type 0} (contents : O → Option (List ℕ)) (base : List ℕ) (a : Account) (opened : List (Opening I O)) (book : BookMap) (track : Track I O) → Begins contents base a opened (book_of book) track → name_of track ≡ a.name
 begun_name contents base a opened book (UnderWay later f) b = ap (λ (x : Account). x.name) b.later_is
+begun_name contents base a opened book (Delayed later) b = absurd b
 begun_name contents base a opened book (IsDone later standing) b = ap (λ (x : Account). x.name) b.1
 
 module _ {I O : Type 0} where
@@ -111,6 +112,35 @@ module _ {J I O : Type 0} (P Q : Type 0) (h : Journals J) (received : I → Opti
       (begun P Q h received posted base last (faulted c.fault c.account) first opened c.track new.state.book c.begins out.1 (all_away c.account.name out.1 c.others old.waiting out.2 away.0)
       (makes_out P Q h received posted base last (c.track, set) out.1 into.0 opened new.state.book into.2 ends)))
 
+  delayed_more : (first opened : List (Opening I O)) (told : List Done) (old new : Scene I O J) → IsDelayed received posted h base window first told old new → From opened new → From (first ++ opened) old
+  delayed_more first opened told old new d from bs are apart =
+      let later = Delayed (put_off (faulted d.fault d.account)) in
+      let out = take_out Sets bs d.others (UnderWay d.account d.flight) (subst (λ (l : List (Track I O)). Holds (UnderWay d.account d.flight) d.others l) (sym are) (holds_of (UnderWay d.account d.flight) d.others old.tracks d.before)) in
+      let away = leaves_apart (UnderWay d.account d.flight) d.others old.tracks old.waiting d.before apart in
+      let into = put_in Sets out.1 d.others new.tracks later tt out.2 (holds_of later d.others new.tracks d.after) in
+      let rest = subst (λ (l : List RecordName). AllByRecursion (λ n. n ≢ d.account.name) (names_of d.others l) × AreApart (names_of d.others l)) (sym d.waiting) away in
+      let ends = from into.0 into.1 (comes_apart d.account.name later d.others new.tracks new.waiting d.after refl rest.0 rest.1) in
+      makes_in P Q h received posted base last (UnderWay d.account d.flight, out.0) out.1 bs (first ++ opened) old.state.book out.3
+      (heard P Q h received posted base last d.account d.flight out.0 out.1 (first ++ opened) old.state new.state (Ok d.fault) d.learnt
+      (makes_skip P Q h received posted base last first opened out.1 new.state.book
+      (makes_without P Q h received posted base last (put_off (faulted d.fault d.account)) tt out.1 opened new.state.book
+      (makes_out P Q h received posted base last (later, tt) out.1 into.0 opened new.state.book into.2 ends))))
+
+  resumed_more : (first opened : List (Opening I O)) (told : List Done) (old new : Scene I O J) → IsResumed received posted h base window first told old new → From opened new → From (first ++ opened) old
+  resumed_more first opened told old new r from bs are apart =
+      let waits = Delayed r.account in
+      let out = take_out Sets bs r.others waits (subst (λ (l : List (Track I O)). Holds waits r.others l) (sym are) (holds_of waits r.others old.tracks r.before)) in
+      let away = leaves_apart waits r.others old.tracks old.waiting r.before apart in
+      let named : name_of r.track ≡ r.account.name = begun_name posted base r.account first old.state.book r.track r.begins in
+      let set = set_out P Q h received posted base last r.account first old.state.book r.track r.begins in
+      let into = put_in Sets out.1 r.others new.tracks r.track set out.2 (holds_of r.track r.others new.tracks r.after) in
+      let later = subst (λ (l : List RecordName). AllByRecursion (λ n. n ≢ r.account.name) (names_of r.others l) × AreApart (names_of r.others l)) (sym r.waiting) away in
+      let ends = from into.0 into.1 (comes_apart r.account.name r.track r.others new.tracks new.waiting r.after named later.0 later.1) in
+      makes_in P Q h received posted base last (waits, out.0) out.1 bs (first ++ opened) old.state.book out.3
+      (makes_waits P Q h received posted base last r.account out.0 out.1 (first ++ opened) old.state.book
+      (begun P Q h received posted base last r.account first opened r.track old.state.book r.begins out.1 (all_away r.account.name out.1 r.others old.waiting out.2 away.0)
+      (makes_out P Q h received posted base last (r.track, set) out.1 into.0 opened old.state.book into.2 (on_book opened into.0 old.state new.state r.state ends))))
+
   reported_more : (first opened : List (Opening I O)) (told : List Done) (old new : Scene I O J) → IsReported received posted h base window first told old new → From opened new → From (first ++ opened) old
   reported_more first opened told old new r from bs are apart =
       let done = IsDone r.account r.standing in
@@ -135,8 +165,10 @@ module _ {J I O : Type 0} (P Q : Type 0) (h : Journals J) (received : I → Opti
   move_more : (first opened : List (Opening I O)) (told : List Done) (old new : Scene I O J) → IsMove received posted h base window first told old new → From opened new → From (first ++ opened) old
   move_more first opened told old new (inl b) from = begun_more first opened told old new b from
   move_more first opened told old new (inr (inl c)) from = continued_more first opened told old new c from
-  move_more first opened told old new (inr (inr (inl r))) from = reported_more first opened told old new r from
-  move_more first opened told old new (inr (inr (inr m))) from = moved_more first opened told old new m from
+  move_more first opened told old new (inr (inr (inl d))) from = delayed_more first opened told old new d from
+  move_more first opened told old new (inr (inr (inr (inl r)))) from = resumed_more first opened told old new r from
+  move_more first opened told old new (inr (inr (inr (inr (inl r))))) from = reported_more first opened told old new r from
+  move_more first opened told old new (inr (inr (inr (inr (inr m))))) from = moved_more first opened told old new m from
 
   -- ---- moves
 
@@ -153,6 +185,7 @@ module _ {J I O : Type 0} (P Q : Type 0) (h : Journals J) (received : I → Opti
       → Ends opened bs new.book → Ends opened ((track, set) ∷ bs) old.book
   closed (UnderWay a f) set bs opened old new (Ok done) closes ends = heard P Q h received posted base last a f set bs opened old new (Ok closes.0) closes.1 ends
   closed (UnderWay a f) set bs opened old new (Err fault) closes ends = heard P Q h received posted base last a f set bs opened old new (Err fault) closes ends
+  closed (Delayed a) set bs opened old new result closes ends = makes_waits P Q h received posted base last a set bs opened old.book (on_book opened bs old new closes.0 ends)
   closed (IsDone a standing) set bs opened old new result closes ends = makes_done P Q h received posted base last a standing set bs opened old.book (on_book opened bs old new closes.0 ends)
 
   looked : (tracks : List (Track I O)) (opened : List (Opening I O)) (old new : Connector J) → LooksThrough received h tracks old new → Ends opened [] new.book → (bs : List Known) → tracks_of bs ≡ tracks → Ends opened bs old.book
@@ -172,7 +205,9 @@ module _ {J I O : Type 0} (P Q : Type 0) (h : Journals J) (received : I → Opti
   advanced : (track : Track I O) (set : Sets track) (bs : List Known) (opened : List (Opening I O)) (old new : Connector J) (fault : RunFault) → Advances received posted h base track opened old new (Err fault)
       → Ends opened bs new.book → Ends opened ((track, set) ∷ bs) old.book
   advanced (UnderWay a f) set bs opened old new fault (inl c) ends = heard P Q h received posted base last a f set bs opened old new (Ok c.fault) c.learnt ends
-  advanced (UnderWay a f) set bs opened old new fault (inr e) ends = heard P Q h received posted base last a f set bs opened old new (Err e.0) e.1 ends
+  advanced (UnderWay a f) set bs opened old new fault (inr (inl d)) ends = absurd (cc d.result_is)
+  advanced (Delayed a) set bs opened old new fault (same, goes) ends = makes_waits P Q h received posted base last a set bs opened old.book (on_book opened bs old new same ends)
+  advanced (UnderWay a f) set bs opened old new fault (inr (inr e)) ends = heard P Q h received posted base last a f set bs opened old new (Err e.0) e.1 ends
   advanced (IsDone a standing) set bs opened old new fault (none, same, is) ends = absurd (cc is)
 
   reported : (opened : List (Opening I O)) (scene : Scene I O J) (rest : List (Track I O)) (new : Connector J) (a : Account) (standing : Standing) → IsWith (IsDone a standing) rest scene.tracks → new ≡ scene.state

@@ -18,7 +18,7 @@ use Rattle.provisioning.specs.declared.records.Standing.{Standing}
 use Rattle.provisioning.specs.declared.tracks.Account.{Account}
 use Rattle.provisioning.specs.declared.tracks.Flight.{Flight}
 use Rattle.provisioning.specs.declared.tracks.Track.{Track}
-use Rattle.provisioning.specs.declared.tracks.Track.TheVariants.{UnderWay, Done as IsDone}
+use Rattle.provisioning.specs.declared.tracks.Track.TheVariants.{UnderWay, Delayed, Done as IsDone}
 use Rattle.world_model.specs.World.{Asked}
 use Rattle.world_sim.specs.Fitting.{IsFormed}
 use Rattle.promise.specs.Abreast.{AbreastDoes, exchange_of}
@@ -34,6 +34,7 @@ module _ {J I O : Type 0} (P Q : Type 0) (h : Journals J) (received : I → Opti
   -- on which stream its request was sent, if one is under way
   abbrev pub SetOut : Track I O → Type 0
   SetOut (UnderWay a f) = (stream : I × O) × IsSetOut posted base f.request stream f
+  SetOut (Delayed a) = Unit {0}
   SetOut (IsDone a standing) = Unit {0}
 
   abbrev pub Begun : Type 0
@@ -42,6 +43,7 @@ module _ {J I O : Type 0} (P Q : Type 0) (h : Journals J) (received : I → Opti
   -- this exchange is that of the record
   abbrev IsExchangeOf : (track : Track I O) → SetOut track → Asking I O → Type 0
   IsExchangeOf (UnderWay a f) set e = IsFormed base (Asked f.request) × ((came : Came) × (e ≡ (a.name, exchange_of f set.0 came)))
+  IsExchangeOf (Delayed a) set e = ⊥
   IsExchangeOf (IsDone a standing) set e = ⊥
 
   -- nothing waits for the record, or its exchange does
@@ -92,6 +94,23 @@ module _ {J I O : Type 0} (P Q : Type 0) (h : Journals J) (received : I → Opti
   pub makes_in : (b : Begun) (cs bs : List Begun) (opened : List (Opening I O)) (book : BookMap) → Holds b cs bs → Makes opened (b ∷ cs) book → Makes opened bs book
   makes_in b cs bs opened book holds m = record { waits = m.waits; fits = fits_in b cs bs m.waits holds m.fits; moves = m.moves; does = m.does; streams = m.streams }
 
+  -- a record that waits
+  pub makes_waits : (a : Account) (set : SetOut (Delayed a)) (bs : List Begun) (opened : List (Opening I O)) (book : BookMap) → Makes opened bs book → Makes opened ((Delayed a, set) ∷ bs) book
+  makes_waits a set bs opened book m = record { waits = m.waits; fits = (m.waits, inl refl, m.fits); moves = m.moves; does = m.does; streams = m.streams }
+
+  -- none of its exchanges waits
+  pub makes_without : (a : Account) (set : SetOut (Delayed a)) (bs : List Begun) (opened : List (Opening I O)) (book : BookMap) → Makes opened ((Delayed a, set) ∷ bs) book → Makes opened bs book
+  makes_without a set bs opened book m = elim (m.fits.1) [
+    | inl same ↦ record {
+      waits = m.fits.0;
+      fits = m.fits.2;
+      moves = m.moves;
+      does = subst (λ (l : List (Asking I O)). AbreastDoes h received posted base m.moves l book last) same m.does;
+      streams = m.streams;
+    }
+    | inr some ↦ absurd some.1
+  ]
+
   -- a record that is done
   pub makes_done : (a : Account) (standing : Standing) (set : SetOut (IsDone a standing)) (bs : List Begun) (opened : List (Opening I O)) (book : BookMap) → Makes opened bs book → Makes opened ((IsDone a standing, set) ∷ bs) book
   makes_done a standing set bs opened book m = record { waits = m.waits; fits = (m.waits, inl refl, m.fits); moves = m.moves; does = m.does; streams = m.streams }
@@ -139,6 +158,7 @@ module _ {J I O : Type 0} (P Q : Type 0) (h : Journals J) (received : I → Opti
 
   named_so : (b : Begun) (e : Asking I O) → IsExchangeOf b.0 b.1 e → e.0 ≡ name_of b.0
   named_so (UnderWay a f, set) e of = ap (λ (x : Asking I O). x.0) of.1.1
+  named_so (Delayed a, set) e of = absurd of
   named_so (IsDone a standing, set) e of = absurd of
 
   -- none of these exchanges is for this record
@@ -150,6 +170,7 @@ module _ {J I O : Type 0} (P Q : Type 0) (h : Journals J) (received : I → Opti
 
   abbrev pub set_out : (a : Account) (opened : List (Opening I O)) (book : BookMap) (track : Track I O) → Begins posted base a opened (book_of book) track → SetOut track
   set_out a opened book (UnderWay later f) begins = (begins.stream, begins.set_out)
+  set_out a opened book (Delayed later) begins = tt
   set_out a opened book (IsDone later standing) begins = tt
 
   sent_one : (a later : Account) (f : Flight I O) (first opened : List (Opening I O)) (book : BookMap) (s : SetsOut posted base a first (book_of book) later f) (bs : List Begun) (rest waits : List (Asking I O)) (moves : List (Move I O P Q)) (came : Came)
@@ -184,6 +205,7 @@ module _ {J I O : Type 0} (P Q : Type 0) (h : Journals J) (received : I → Opti
     })
     | inr some ↦ sent_one a later f first opened book s bs m.fits.0 m.waits m.moves some.1.1.0 some.1.0 (subst (λ (x : Asking I O). Holds x m.fits.0 m.waits) some.1.1.1 some.2) apart m.fits.2 m.does m.streams
   ]
+  begun a first opened (Delayed later) book s bs apart m = absurd s
   begun a first opened (IsDone later standing) book s bs apart m = elim (m.fits.1) [
     | inl same ↦ makes_skip first opened bs book (record {
       waits = m.fits.0;

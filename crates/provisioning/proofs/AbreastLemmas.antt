@@ -15,7 +15,7 @@ use Rattle.provisioning.specs.declared.faults.RunFault.{RunFault}
 use Rattle.provisioning.specs.declared.pushing.Tally.{Tally}
 use Rattle.provisioning.specs.declared.tracks.Flight.{Flight}
 use Rattle.provisioning.specs.declared.tracks.Track.{Track}
-use Rattle.provisioning.specs.declared.tracks.Track.TheVariants.{UnderWay, Done as IsDone}
+use Rattle.provisioning.specs.declared.tracks.Track.TheVariants.{UnderWay, Delayed, Done as IsDone}
 use Rattle.scim_key.specs.declared.records.RecordName.{RecordName}
 
 module _ {I O J : Type 0} (remaining : I → Option (List ℕ)) (contents : O → Option (List ℕ)) (g : Ghosts J) (base : List ℕ) (window : ℕ) where
@@ -28,8 +28,10 @@ module _ {I O J : Type 0} (remaining : I → Option (List ℕ)) (contents : O �
   move_onward : (opened : List (Opening I O)) (told : List Done) (old new : Scene I O J) → IsMove remaining contents g base window opened told old new → Onward old.state.book new.state.book
   move_onward opened told old new (inl b) = same_onward old.state new.state b.state
   move_onward opened told old new (inr (inl c)) = learnt_onward c.flight old.state new.state (Ok c.fault) c.learnt
-  move_onward opened told old new (inr (inr (inl r))) = same_onward old.state new.state r.state
-  move_onward opened told old new (inr (inr (inr m))) = same_onward old.state new.state m.state
+  move_onward opened told old new (inr (inr (inl d))) = learnt_onward d.flight old.state new.state (Ok d.fault) d.learnt
+  move_onward opened told old new (inr (inr (inr (inl r)))) = same_onward old.state new.state r.state
+  move_onward opened told old new (inr (inr (inr (inr (inl r))))) = same_onward old.state new.state r.state
+  move_onward opened told old new (inr (inr (inr (inr (inr m))))) = same_onward old.state new.state m.state
 
   moves_onward : (ps : List (Point I O J)) (opened : List (Opening I O)) (told : List Done) (old new : Scene I O J) → AreMoves remaining contents g base window ps opened told old new → Onward old.state.book new.state.book
   moves_onward [] opened told old new (a, b, same) = same_onward old.state new.state (ap (λ (s : Scene I O J). s.state) same)
@@ -38,7 +40,9 @@ module _ {I O J : Type 0} (remaining : I → Option (List ℕ)) (contents : O �
 
   advances_onward : (track : Track I O) (opened : List (Opening I O)) (old new : State J) (result : Result (Track I O) RunFault) → Advances remaining contents g base track opened old new result → Onward old.book new.book
   advances_onward (UnderWay a f) opened old new result (inl c) = learnt_onward f old new (Ok c.fault) c.learnt
-  advances_onward (UnderWay a f) opened old new result (inr e) = learnt_onward f old new (Err e.0) e.1
+  advances_onward (UnderWay a f) opened old new result (inr (inl d)) = learnt_onward f old new (Ok d.fault) d.learnt
+  advances_onward (UnderWay a f) opened old new result (inr (inr e)) = learnt_onward f old new (Err e.0) e.1
+  advances_onward (Delayed a) opened old new result (same, goes) = same_onward old new same
   advances_onward (IsDone a standing) opened old new result (none, same, is) = same_onward old new same
 
   causes_onward : (last : List (Opening I O)) (scene : Scene I O J) (rest : List (Track I O)) (new : State J) (fault : RunFault) → Causes remaining contents g base window last scene rest new fault → Onward scene.state.book new.book
@@ -49,6 +53,7 @@ module _ {I O J : Type 0} (remaining : I → Option (List ℕ)) (contents : O �
   closes_onward : (track : Track I O) (old new : State J) (result : Result (Unit {0}) RunFault) → Closes remaining g track old new result → Onward old.book new.book
   closes_onward (UnderWay a f) old new (Ok done) c = learnt_onward f old new (Ok c.0) c.1
   closes_onward (UnderWay a f) old new (Err fault) c = learnt_onward f old new (Err fault) c
+  closes_onward (Delayed a) old new result c = same_onward old new c.0
   closes_onward (IsDone a standing) old new result c = same_onward old new c.0
 
   looks_onward : (tracks : List (Track I O)) (old new : State J) → LooksThrough remaining g tracks old new → Onward old.book new.book

@@ -19,8 +19,8 @@ use Rattle.provisioning.specs.Paces.{OneStreamIsInTurn, PushesInTurn}
 use Rattle.provisioning.specs.Records.{EndsRun, IsPushed, Stands, most_exchanges}
 use Rattle.provisioning.specs.Runs.{AllDone, AreDone, Done, IsUntold, PartDone, PushesEach, streak_of}
 use Rattle.provisioning.specs.Streaks.{IsGivenUp}
-use Rattle.provisioning.specs.Tracks.{Advances, Begins, IsLearnt, SetsOut, StandsAt, faulted, fresh}
-use Rattle.provisioning.specs.Windows.{AllMoved, AreMoves, Breaks, Causes, IsBegun, IsContinued, IsMove, IsMoved, IsReported, IsWith, LooksThrough, PartMoved, Point, PushesAbreast, Scene, at_start, done_of, name_of, names_in, window_of}
+use Rattle.provisioning.specs.Tracks.{Advances, Begins, IsLearnt, SetsOut, StandsAt, faulted, fresh, put_off}
+use Rattle.provisioning.specs.Windows.{AllMoved, AreMoves, Breaks, Causes, IsBegun, IsContinued, IsDelayed, IsMove, IsMoved, IsReported, IsResumed, IsWith, LooksThrough, PartMoved, Point, PushesAbreast, Scene, at_start, done_of, name_of, names_in, window_of}
 use Rattle.provisioning.specs.declared.faults.RecordFault.{RecordFault}
 use Rattle.provisioning.specs.declared.faults.RunFault.{RunFault}
 use Rattle.provisioning.specs.declared.pushing.Tally.{Tally}
@@ -28,7 +28,7 @@ use Rattle.provisioning.specs.declared.records.Standing.{Standing}
 use Rattle.provisioning.specs.declared.tracks.Account.{Account}
 use Rattle.provisioning.specs.declared.tracks.Flight.{Flight}
 use Rattle.provisioning.specs.declared.tracks.Track.{Track}
-use Rattle.provisioning.specs.declared.tracks.Track.TheVariants.{UnderWay, Done as IsDone}
+use Rattle.provisioning.specs.declared.tracks.Track.TheVariants.{UnderWay, Delayed, Done as IsDone}
 
 -- ---- lists of one
 
@@ -82,11 +82,13 @@ module _ {I O J : Type 0} (remaining : I → Option (List ℕ)) (contents : O �
 
   abbrev IsAt : Track I O → (opened : List (Opening I O)) → (old new : State J) → Type 0
   IsAt (UnderWay a f) opened old new = IsFlying a f opened old new
+  IsAt (Delayed a) opened old new = SoFar a.name opened old new a.exchanges a.last
   IsAt (IsDone a standing) opened old new = Pushed a standing opened old new
 
   begun_so : (a : Account) (first last : List (Opening I O)) (old new : State J) (track : Track I O) → SoFar a.name first old new a.exchanges a.last
       → Begins contents base a last (book_of new.book) track → IsAt track (first ++ last) old new
   begun_so a first last old new (UnderWay later f) so sets = record { before = a; first = first; last = last; so = so; sets = sets; opened_are = refl }
+  begun_so a first last old new (Delayed later) so begins = absurd begins
   begun_so a first last old new (IsDone later standing) so (none, same, stands) =
       subst (λ (x : Account). Pushed x standing (first ++ last) old new) (sym same)
       (subst (λ (l : List (Opening I O)). Pushed a standing l old new) (sym (none_added first last none))
@@ -115,7 +117,11 @@ module _ {I O J : Type 0} (remaining : I → Option (List ℕ)) (contents : O �
       → Advances remaining contents g base track last here new (Err fault) → EndsRun remaining contents g base (name_of track) (opened ++ last) old new fault
   stopped_so (UnderWay a f) opened last old here new fault fl (inl c) =
       so_ends remaining contents g base a.name opened last old new new a.exchanges (option_or c.fault a.last) fault (heard_so a f opened old here new c.fault fl c.learnt) c.goes_on.0 (inr (refl, c.goes_on.1))
-  stopped_so (UnderWay a f) opened last old here new fault fl (inr (end, l, none, is)) =
+  stopped_so (UnderWay a f) opened last old here new fault fl (inr (inl d)) =
+      let is = d.result_is in absurd (cc)
+  stopped_so (Delayed a) opened last old here new fault so (same, left, unmade) =
+      so_ends remaining contents g base a.name opened last old here new a.exchanges a.last fault so left (inr (same, unmade))
+  stopped_so (UnderWay a f) opened last old here new fault fl (inr (inr (end, l, none, is))) =
       let same : fault ≡ end = cc in
       subst (λ (n : RecordName). EndsRun remaining contents g base n (opened ++ last) old new fault) (sym (ap (λ (x : Account). x.name) fl.sets.later_is))
       (subst (λ (o : List (Opening I O)). EndsRun remaining contents g base fl.before.name o old new fault) (sym (none_added opened last none ∙ fl.opened_are))
@@ -205,6 +211,46 @@ module _ {I O J : Type 0} (remaining : I → Option (List ℕ)) (contents : O �
             ∙ ap (λ (ds : List Done). told_names ds ++ names_in new) (sym quiet);
       }
 
+  delayed_turn : (names : List RecordName) (done told : List Done) (before opened : List (Opening I O)) (old : State J) (scene new : Scene I O J)
+      → IsInTurn names done before old scene → IsDelayed remaining contents g base 1 opened told scene new → IsInTurn names (done ++ told) (before ++ opened) old new
+  delayed_turn names done told before opened old scene new p d =
+      let here = the_one (UnderWay d.account d.flight) d.others scene.tracks p.last p.between scene.state d.before p.at in
+      let one : new.tracks ≡ Delayed (put_off (faulted d.fault d.account)) ∷ [] = only_one (Delayed (put_off (faulted d.fault d.account))) d.others new.tracks d.after here.1 in
+      let quiet : done ++ told ≡ done = none_added done told d.told_none in
+      record {
+        first = p.first;
+        last = p.last;
+        between = p.between;
+        opened_are = none_added before opened d.opened_none ∙ p.opened_are;
+        are = subst (λ (ds : List Done). AreDone remaining contents g base ds p.first old p.between) (sym quiet) p.are;
+        at = subst (λ (ts : List (Track I O)). AreAt ts p.last p.between new.state) (sym one)
+            (heard_so d.account d.flight p.last p.between scene.state new.state d.fault here.2 d.learnt);
+        names_are = p.names_are
+            ∙ ap (λ xs. told_names done ++ xs) (ap (names_with scene.waiting) here.0 ∙ ap (λ xs. d.account.name ∷ xs) (sym d.waiting) ∙ ap (names_with new.waiting) (sym one))
+            ∙ ap (λ (ds : List Done). told_names ds ++ names_in new) (sym quiet);
+      }
+
+  resumed_turn : (names : List RecordName) (done told : List Done) (before opened : List (Opening I O)) (old : State J) (scene new : Scene I O J)
+      → IsInTurn names done before old scene → IsResumed remaining contents g base 1 opened told scene new → IsInTurn names (done ++ told) (before ++ opened) old new
+  resumed_turn names done told before opened old scene new p r =
+      let here = the_one (Delayed r.account) r.others scene.tracks p.last p.between scene.state r.before p.at in
+      let one : new.tracks ≡ r.track ∷ [] = only_one r.track r.others new.tracks r.after here.1 in
+      let named : name_of r.track ≡ r.account.name = begun_name remaining contents g base 1 r.account opened (book_of scene.state.book) r.track r.begins in
+      let quiet : done ++ told ≡ done = none_added done told r.told_none in
+      record {
+        first = p.first;
+        last = p.last ++ opened;
+        between = p.between;
+        opened_are = ap (λ xs. xs ++ opened) p.opened_are ∙ append_assoc p.first p.last opened;
+        are = subst (λ (ds : List Done). AreDone remaining contents g base ds p.first old p.between) (sym quiet) p.are;
+        at = subst (λ (ts : List (Track I O)). AreAt ts (p.last ++ opened) p.between new.state) (sym one)
+            (subst (λ (s : State J). IsAt r.track (p.last ++ opened) p.between s) (sym r.state)
+            (begun_so r.account p.last opened p.between scene.state r.track here.2 r.begins));
+        names_are = p.names_are
+            ∙ ap (λ xs. told_names done ++ xs) (ap (names_with scene.waiting) here.0 ∙ ap (λ xs. r.account.name ∷ xs) (sym r.waiting) ∙ ap (λ (n : RecordName). n ∷ new.waiting) (sym named) ∙ ap (names_with new.waiting) (sym one))
+            ∙ ap (λ (ds : List Done). told_names ds ++ names_in new) (sym quiet);
+      }
+
   reported_turn : (names : List RecordName) (done told : List Done) (before opened : List (Opening I O)) (old : State J) (scene new : Scene I O J)
       → IsInTurn names done before old scene → IsReported remaining contents g base 1 opened told scene new → IsInTurn names (done ++ told) (before ++ opened) old new
   reported_turn names done told before opened old scene new p r =
@@ -249,8 +295,10 @@ module _ {I O J : Type 0} (remaining : I → Option (List ℕ)) (contents : O �
       → IsInTurn names done before old scene → IsMove remaining contents g base 1 opened told scene new → IsInTurn names (done ++ told) (before ++ opened) old new
   move_turn names done told before opened old scene new p (inl b) = begun_turn names done told before opened old scene new p b
   move_turn names done told before opened old scene new p (inr (inl c)) = continued_turn names done told before opened old scene new p c
-  move_turn names done told before opened old scene new p (inr (inr (inl r))) = reported_turn names done told before opened old scene new p r
-  move_turn names done told before opened old scene new p (inr (inr (inr m))) = moved_turn names done told before opened old scene new p m
+  move_turn names done told before opened old scene new p (inr (inr (inl d))) = delayed_turn names done told before opened old scene new p d
+  move_turn names done told before opened old scene new p (inr (inr (inr (inl r)))) = resumed_turn names done told before opened old scene new p r
+  move_turn names done told before opened old scene new p (inr (inr (inr (inr (inl r))))) = reported_turn names done told before opened old scene new p r
+  move_turn names done told before opened old scene new p (inr (inr (inr (inr (inr m))))) = moved_turn names done told before opened old scene new p m
 
   moves_turn : (ps : List (Point I O J)) (names : List RecordName) (done told : List Done) (before opened : List (Opening I O)) (old : State J) (scene new : Scene I O J)
       → IsInTurn names done before old scene → AreMoves remaining contents g base 1 ps opened told scene new → IsInTurn names (done ++ told) (before ++ opened) old new

@@ -4,10 +4,11 @@ use Rattle.journal_core.specs.declared.journals.Journal.{Ghosts}
 use Rattle.connector_core.specs.State.{State}
 use Rattle.provisioning.specs.Openings.{Opening}
 use Rattle.provisioning.specs.Runs.{Done}
+use Rattle.provisioning.specs.Tracks.{faulted, put_off}
 use Rattle.provisioning.specs.Windows.{AreMoves, Causes, IsMove, IsWith, LooksThrough, Moves, Point, Scene, Stops, with_first}
 use Rattle.provisioning.specs.declared.faults.RunFault.{RunFault}
 use Rattle.provisioning.specs.declared.tracks.Track.{Track}
-use Rattle.provisioning.specs.declared.tracks.Track.TheVariants.{UnderWay, Done as IsDone}
+use Rattle.provisioning.specs.declared.tracks.Track.TheVariants.{UnderWay, Delayed, Done as IsDone}
 
 -- ---- places in a list
 
@@ -106,7 +107,31 @@ module _ {I O J : Type 0} (remaining : I → Option (List ℕ)) (contents : O �
     told_none = c.told_none;
     waiting = c.waiting;
   }))
-  move_beside track opened told old new (inr (inr (inr m))) = inr (inr (inr (record {
+  move_beside track opened told old new (inr (inr (inl d))) = inr (inr (inl (record {
+    account = d.account;
+    flight = d.flight;
+    fault = d.fault;
+    others = track ∷ d.others;
+    before = with_after (UnderWay d.account d.flight) track d.others old.tracks d.before;
+    after = with_after (Delayed (put_off (faulted d.fault d.account))) track d.others new.tracks d.after;
+    learnt = d.learnt;
+    may = d.may;
+    opened_none = d.opened_none;
+    told_none = d.told_none;
+    waiting = d.waiting;
+  })))
+  move_beside track opened told old new (inr (inr (inr (inl r)))) = inr (inr (inr (inl (record {
+    account = r.account;
+    track = r.track;
+    others = track ∷ r.others;
+    before = with_after (Delayed r.account) track r.others old.tracks r.before;
+    after = with_after r.track track r.others new.tracks r.after;
+    begins = r.begins;
+    told_none = r.told_none;
+    state = r.state;
+    waiting = r.waiting;
+  }))))
+  move_beside track opened told old new (inr (inr (inr (inr (inr m))))) = inr (inr (inr (inr (inr (record {
     track = m.track;
     others = track ∷ m.others;
     before = with_after m.track track m.others old.tracks m.before;
@@ -115,8 +140,8 @@ module _ {I O J : Type 0} (remaining : I → Option (List ℕ)) (contents : O �
     told_none = m.told_none;
     state = m.state;
     waiting = m.waiting;
-  })))
-  move_beside track opened told old new (inr (inr (inl r))) = inr (inr (inl (record {
+  })))))
+  move_beside track opened told old new (inr (inr (inr (inr (inl r))))) = inr (inr (inr (inr (inl (record {
     account = r.account;
     standing = r.standing;
     tracks = with_after (IsDone r.account r.standing) track new.tracks old.tracks r.tracks;
@@ -124,7 +149,7 @@ module _ {I O J : Type 0} (remaining : I → Option (List ℕ)) (contents : O �
     told_is = r.told_is;
     state = r.state;
     waiting = r.waiting;
-  })))
+  })))))
 
   abbrev beside : Track I O → Point I O J → Point I O J
   beside track p = record { opened = p.opened; told = p.told; scene = with_first track p.scene }

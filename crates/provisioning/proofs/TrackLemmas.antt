@@ -1,5 +1,5 @@
 -- How a record goes on while several are under way.
-use Rattle.std.proofs.Common.{◌≡◌, ◌<◌, ◌≤◌, ℕ, List, [], ◌∷◌, Option, Some, None, Result, Ok, Err, inl, inr, refl, ap, sym, ◌∙◌, subst}
+use Rattle.std.proofs.Common.{◌≡◌, ◌<◌, ◌≤◌, ℕ, true, List, [], ◌∷◌, Option, Some, None, Result, Ok, Err, inl, inr, refl, ap, sym, ◌∙◌, subst}
 use Rattle.std.specs.Option.{ok_or}
 use Rattle.scim_message.specs.declared.messages.Answer.{Answer}
 use Rattle.scim_message.specs.declared.messages.Request.{Request}
@@ -15,14 +15,14 @@ use Rattle.connector_core.specs.declared.asking.AskFault.TheVariants as faults
 use Rattle.provisioning.specs.Exchanges.{IsTaken}
 use Rattle.provisioning.specs.Openings.{Opening}
 use Rattle.provisioning.specs.Records.{Stands, most_exchanges}
-use Rattle.provisioning.specs.Tracks.{Advances, ComesOfOpening, GoesOn, IsHeard, IsLearnt, IsReadFrom, IsSetOut, StandsAt, faulted}
+use Rattle.provisioning.specs.Tracks.{Advances, ComesOfOpening, GoesOn, IsHeard, IsLearnt, IsReadFrom, IsSetOut, StandsAt, faulted, may_wait, put_off}
 use Rattle.provisioning.specs.declared.faults.RecordFault.{RecordFault}
 use Rattle.provisioning.specs.declared.faults.RunFault.{RunFault}
 use Rattle.provisioning.specs.declared.records.Standing.{Standing}
 use Rattle.provisioning.specs.declared.tracks.Account.{Account}
 use Rattle.provisioning.specs.declared.tracks.Flight.{Flight}
 use Rattle.provisioning.specs.declared.tracks.Track.{Track}
-use Rattle.provisioning.specs.declared.tracks.Track.TheVariants.{UnderWay}
+use Rattle.provisioning.specs.declared.tracks.Track.TheVariants.{UnderWay, Delayed}
 
 -- what was asked
 pub was_asked : (o : Option Ask) (a : Ask) → ok_or o faults.NoSuchRecord ≡ Ok a → o ≡ Some a
@@ -68,7 +68,7 @@ heard_fault remaining request reader sent fault is = subst (λ (s : Result (Unit
 pub ends_learning : {I O J : Type 0} (remaining : I → Option (List ℕ)) (contents : O → Option (List ℕ)) (g : Ghosts J) (base : List ℕ) (track : Track I O) (a : Account) (f : Flight I O) (fault : RunFault) (old new : State J)
     → track ≡ UnderWay a f → IsLearnt remaining g f old new (Err fault) → Advances remaining contents g base track [] old new (Err fault)
 ends_learning {I} {O} remaining contents g base track a f fault old new is learnt =
-    subst (λ (t : Track I O). Advances remaining contents g base t [] old new (Err fault)) (sym is) (inr (fault, learnt, refl, refl))
+    subst (λ (t : Track I O). Advances remaining contents g base t [] old new (Err fault)) (sym is) (inr (inr (fault, learnt, refl, refl)))
 
 pub continues : {I O J : Type 0} (remaining : I → Option (List ℕ)) (contents : O → Option (List ℕ)) (g : Ghosts J) (base : List ℕ) (track : Track I O) (a : Account) (f : Flight I O) (fault : Option RecordFault) (opened : List (Opening I O)) (old new : State J)
     (later : Account) (result : Result (Track I O) RunFault) → track ≡ UnderWay a f → IsLearnt remaining g f old new (Ok fault) → later ≡ faulted fault a → GoesOn contents base later opened (book_of new.book) result
@@ -76,3 +76,15 @@ pub continues : {I O J : Type 0} (remaining : I → Option (List ℕ)) (contents
 continues {I} {O} remaining contents g base track a f fault opened old new later result is learnt same goes =
     subst (λ (t : Track I O). Advances remaining contents g base t opened old new result) (sym is)
     (inl (record { fault = fault; learnt = learnt; goes_on = subst (λ (x : Account). GoesOn contents base x opened (book_of new.book) result) same goes }))
+
+pub delays : {I O J : Type 0} (remaining : I → Option (List ℕ)) (contents : O → Option (List ℕ)) (g : Ghosts J) (base : List ℕ) (track : Track I O) (a : Account) (f : Flight I O) (fault : Option RecordFault) (old new : State J)
+    (later last : Account) → track ≡ UnderWay a f → IsLearnt remaining g f old new (Ok fault) → may_wait fault a ≡ true → later ≡ faulted fault a → last ≡ put_off later
+    → Advances remaining contents g base track [] old new (Ok (Delayed last))
+delays {I} {O} remaining contents g base track a f fault old new later last is learnt may same put =
+    subst (λ (t : Track I O). Advances remaining contents g base t [] old new (Ok (Delayed last))) (sym is)
+    (inr (inl (record { fault = fault; learnt = learnt; may = may; opened_none = refl; result_is = ap (λ (x : Account). Ok (Delayed x)) (put ∙ ap put_off same) })))
+
+pub resumes : {I O J : Type 0} (remaining : I → Option (List ℕ)) (contents : O → Option (List ℕ)) (g : Ghosts J) (base : List ℕ) (track : Track I O) (a : Account) (opened : List (Opening I O)) (state : State J)
+    (result : Result (Track I O) RunFault) → track ≡ Delayed a → GoesOn contents base a opened (book_of state.book) result → Advances remaining contents g base track opened state state result
+resumes {I} {O} remaining contents g base track a opened state result is goes =
+    subst (λ (t : Track I O). Advances remaining contents g base t opened state state result) (sym is) (refl, goes)

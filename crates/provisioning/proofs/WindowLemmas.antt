@@ -13,7 +13,7 @@ use Rattle.provisioning.specs.Openings.{Opening}
 use Rattle.provisioning.specs.Records.{most_exchanges}
 use Rattle.provisioning.specs.Runs.{Done, IsUntold, NeverGivesUp, Tells, streak_of, tally_of, tally_with}
 use Rattle.provisioning.specs.Streaks.{go_on_after, streak_with}
-use Rattle.provisioning.specs.Tracks.{Advances, Begins, Closes, fresh}
+use Rattle.provisioning.specs.Tracks.{Advances, Begins, Closes, Steps, StepsWithin, Stays, faulted, fresh, put_off}
 use Rattle.provisioning.specs.Windows.{AllMoved, BeginsNext, GivesUp, Goes, IsFinished, IsThrough, IsWith, Keeps, Leaves, LooksThrough, Moves, PartMoved, PushesAbreast, PushesThrough, Scene, Stops, TakesFirst, at_start, done_of, name_of, names_in, scene_of, with_first}
 use Rattle.provisioning.specs.declared.faults.RunFault.{RunFault}
 use Rattle.provisioning.specs.declared.faults.RunFault.TheVariants.{Memory}
@@ -24,7 +24,7 @@ use Rattle.provisioning.specs.declared.tracks.Account.{Account}
 use Rattle.provisioning.specs.declared.tracks.Flight.{Flight}
 use Rattle.provisioning.specs.declared.tracks.Track.{Track}
 use Rattle.provisioning.specs.declared.windows.Window.{Window}
-use Rattle.provisioning.specs.declared.tracks.Track.TheVariants.{UnderWay, Done as IsDone}
+use Rattle.provisioning.specs.declared.tracks.Track.TheVariants.{UnderWay, Delayed, Done as IsDone}
 
 -- ---- lists
 
@@ -60,6 +60,7 @@ module _ {I O J : Type 0} (remaining : I → Option (List ℕ)) (contents : O �
 
   pub begun_name : (a : Account) (opened : List (Opening I O)) (book : Book) (track : Track I O) → Begins contents base a opened book track → name_of track ≡ a.name
   begun_name a opened book (UnderWay later f) b = ap (λ (x : Account). x.name) b.later_is
+  begun_name a opened book (Delayed later) b = absurd b
   begun_name a opened book (IsDone later standing) b = ap (λ (x : Account). x.name) b.1
 
   begins_at : (name : RecordName) (opened : List (Opening I O)) (track : Track I O) (waiting later : List RecordName) (ts us : List (Track I O)) (state : State J)
@@ -145,6 +146,24 @@ module _ {I O J : Type 0} (remaining : I → Option (List ℕ)) (contents : O �
 
   -- ---- advancing
 
+  stays_to : (waiting : List RecordName) (track later : Track I O) (others ts us : List (Track I O)) (opened : List (Opening I O)) (old new : State J)
+      → Stays remaining contents g base track opened old new (Ok later) → IsWith track others ts → IsWith later others us
+      → Moves remaining contents g base window opened [] (scene waiting ts old) (scene waiting us new) × (name_of later ≡ name_of track)
+  stays_to waiting track later others ts us opened old new (none, same, is) before after =
+      let later_is : later ≡ track = cc in (
+        one_move remaining contents g base window opened [] (scene waiting ts old) (scene waiting us new) (inr (inr (inr (inr (inr (record {
+          track = track;
+          others = others;
+          before = before;
+          after = subst (λ (t : Track I O). IsWith t others us) later_is after;
+          opened_none = none;
+          told_none = refl;
+          state = same;
+          waiting = refl;
+        })))))),
+        ap name_of later_is,
+      )
+
   pub advances_to : (waiting : List RecordName) (track later : Track I O) (others ts us : List (Track I O)) (opened : List (Opening I O)) (old new : State J)
       → Advances remaining contents g base track opened old new (Ok later) → IsWith track others ts → IsWith later others us
       → Moves remaining contents g base window opened [] (scene waiting ts old) (scene waiting us new) × (name_of later ≡ name_of track)
@@ -164,24 +183,51 @@ module _ {I O J : Type 0} (remaining : I → Option (List ℕ)) (contents : O �
     }))),
     begun_name _ opened (book_of new.book) later c.goes_on,
   )
-  advances_to waiting (UnderWay a f) later others ts us opened old new (inr e) before after = absurd (ok_is_no_err e.3)
-    where
-      ok_is_no_err : {A B : Type 0} {a : A} {b : B} → Ok a ≡ Err b → ⊥
-      ok_is_no_err is = cc
-  advances_to waiting (IsDone a standing) later others ts us opened old new (none, same, is) before after =
-      let later_is : later ≡ IsDone a standing = cc in (
-        one_move remaining contents g base window opened [] (scene waiting ts old) (scene waiting us new) (inr (inr (inr (record {
-          track = IsDone a standing;
+  advances_to waiting (UnderWay a f) later others ts us opened old new (inr (inl d)) before after =
+      let later_is : later ≡ Delayed (put_off (faulted d.fault a)) = ok_same d.result_is in (
+        one_move remaining contents g base window opened [] (scene waiting ts old) (scene waiting us new) (inr (inr (inl (record {
+          account = a;
+          flight = f;
+          fault = d.fault;
           others = others;
           before = before;
           after = subst (λ (t : Track I O). IsWith t others us) later_is after;
-          opened_none = none;
+          learnt = d.learnt;
+          may = d.may;
+          opened_none = d.opened_none;
           told_none = refl;
-          state = same;
           waiting = refl;
         })))),
         ap name_of later_is,
       )
+    where
+      ok_same : {A B : Type 0} {a b : A} → ◌≡◌ {A = Result A B} (Ok a) (Ok b) → a ≡ b
+      ok_same is = cc
+  advances_to waiting (UnderWay a f) later others ts us opened old new (inr (inr e)) before after = absurd (ok_is_no_err e.3)
+    where
+      ok_is_no_err : {A B : Type 0} {a : A} {b : B} → Ok a ≡ Err b → ⊥
+      ok_is_no_err is = cc
+  advances_to waiting (Delayed a) later others ts us opened old new (same, goes) before after = (
+    one_move remaining contents g base window opened [] (scene waiting ts old) (scene waiting us new) (inr (inr (inr (inl (record {
+      account = a;
+      track = later;
+      others = others;
+      before = before;
+      after = after;
+      begins = subst (λ (s : State J). Begins contents base a opened (book_of s.book) later) same goes;
+      told_none = refl;
+      state = same;
+      waiting = refl;
+    }))))),
+    begun_name a opened (book_of new.book) later goes,
+  )
+  advances_to waiting (IsDone a standing) later others ts us opened old new stays before after = stays_to waiting (IsDone a standing) later others ts us opened old new stays before after
+
+  pub steps_to : (waiting : List RecordName) (track later : Track I O) (others ts us : List (Track I O)) (opened : List (Opening I O)) (old new : State J)
+      → Steps remaining contents g base track opened old new (Ok later) → IsWith track others ts → IsWith later others us
+      → Moves remaining contents g base window opened [] (scene waiting ts old) (scene waiting us new) × (name_of later ≡ name_of track)
+  steps_to waiting track later others ts us opened old new (inl advances) before after = advances_to waiting track later others ts us opened old new advances before after
+  steps_to waiting track later others ts us opened old new (inr stays) before after = stays_to waiting track later others ts us opened old new stays before after
 
 -- ---- all others, from the first to the last
 
@@ -232,17 +278,18 @@ module _ {I O J : Type 0} (remaining : I → Option (List ℕ)) (contents : O �
       subst (λ (d : List Done). Stops remaining contents g base window (first ++ then) d old rest new fault) (append-nil told) (stops_more remaining contents g base window first then told [] old between rest new fault a b)
 
   pub others_stop : (first then : List (Opening I O)) (old : Scene I O J) (waiting : List RecordName) (ts others : List (Track I O)) (state new : State J) (track : Track I O) (fault : RunFault)
-      → Moves remaining contents g base window first [] old (scene waiting ts state) → ts ≡ track ∷ others → Advances remaining contents g base track then state new (Err fault)
+      → Moves remaining contents g base window first [] old (scene waiting ts state) → ts ≡ track ∷ others → Steps remaining contents g base track then state new (Err fault)
       → Goes remaining contents g base window (first ++ then) old (scene waiting others new) (Err fault)
-  others_stop first then old waiting ts others state new track fault moves is advances =
+  others_stop first then old waiting ts others state new track fault moves is (inr (none, same, stays)) = absurd (cc)
+  others_stop first then old waiting ts others state new track fault moves is (inl advances) =
       stops_on first then [] old (scene waiting ts state) others new fault moves
       (stops_here remaining contents g base window then (scene waiting ts state) others new fault (inr (inl (track, ([], others, is, refl), advances))))
 
   pub others_next : (first then : List (Opening I O)) (old : Scene I O J) (waiting : List RecordName) (ts others us : List (Track I O)) (state new : State J) (track later : Track I O)
-      → Moves remaining contents g base window first [] old (scene waiting ts state) → ts ≡ track ∷ others → us ≡ others ++ later ∷ [] → Advances remaining contents g base track then state new (Ok later)
+      → Moves remaining contents g base window first [] old (scene waiting ts state) → ts ≡ track ∷ others → us ≡ others ++ later ∷ [] → Steps remaining contents g base track then state new (Ok later)
       → Moves remaining contents g base window (first ++ then) [] old (scene waiting us new) × (name_of later ≡ name_of track)
   others_next first then old waiting ts others us state new track later moves is end advances =
-      let to = advances_to remaining contents g base window waiting track later others ts us then state new advances ([], others, is, refl) (others, [], end, sym (append-nil others)) in
+      let to = steps_to remaining contents g base window waiting track later others ts us then state new advances ([], others, is, refl) (others, [], end, sym (append-nil others)) in
       (moves_on first then [] old (scene waiting ts state) (scene waiting us new) moves to.0, to.1)
 
   -- ---- the first record, until it is done
@@ -274,7 +321,7 @@ module _ {I O J : Type 0} (remaining : I → Option (List ℕ)) (contents : O �
     (closed, new, closes, refl),
   )
 
-  pub finishing_next : (done then : List (Opening I O)) (begun : Track I O) (old : Scene I O J) (first later : Track I O) (here : Scene I O J) (new : State J)
+  finishing_next : (done then : List (Opening I O)) (begun : Track I O) (old : Scene I O J) (first later : Track I O) (here : Scene I O J) (new : State J)
       → IsFinishing done begun old first here → Advances remaining contents g base first then here.state new (Ok later) → IsFinishing (done ++ then) begun old later (scene here.waiting here.tracks new)
   finishing_next done then begun old first later here new f advances =
       let to = advances_to remaining contents g base window here.waiting first later here.tracks (first ∷ here.tracks) (later ∷ here.tracks) then here.state new advances (with_front first here.tracks) (with_front later here.tracks) in
@@ -283,6 +330,20 @@ module _ {I O J : Type 0} (remaining : I → Option (List ℕ)) (contents : O �
         names = f.names;
         name = to.1 ∙ f.name;
       }
+
+  finishing_stays : (done then : List (Opening I O)) (begun : Track I O) (old : Scene I O J) (first later : Track I O) (here : Scene I O J) (new : State J)
+      → IsFinishing done begun old first here → Stays remaining contents g base first then here.state new (Ok later) → IsFinishing (done ++ then) begun old later (scene here.waiting here.tracks new)
+  finishing_stays done then begun old first later here new f (none, same, is) =
+      let later_is : later ≡ first = cc in
+      subst (λ (t : Track I O). IsFinishing (done ++ then) begun old t (scene here.waiting here.tracks new)) (sym later_is)
+      (subst (λ (s : State J). IsFinishing (done ++ then) begun old first (scene here.waiting here.tracks s)) (sym same)
+      (subst (λ (o : List (Opening I O)). IsFinishing o begun old first here) (sym (ap (λ xs. done ++ xs) none ∙ append-nil done)) f))
+
+  pub finishing_steps : (turns left : ℕ) (done then : List (Opening I O)) (begun : Track I O) (old : Scene I O J) (first later : Track I O) (here : Scene I O J) (new : State J)
+      → IsFinishing done begun old first here → StepsWithin remaining contents g base turns first then here.state new (Ok (later, left))
+      → IsFinishing (done ++ then) begun old later (scene here.waiting here.tracks new)
+  finishing_steps turns left done then begun old first later here new f (inl (advances, same)) = finishing_next done then begun old first later here new f advances
+  finishing_steps turns left done then begun old first later here new f (inr (stays, less)) = finishing_stays done then begun old first later here new f stays
 
   pub finishing_stopped : (done then : List (Opening I O)) (begun : Track I O) (old : Scene I O J) (first : Track I O) (here : Scene I O J) (new : State J) (fault : RunFault)
       → IsFinishing done begun old first here → Advances remaining contents g base first then here.state new (Err fault)
@@ -434,7 +495,7 @@ module _ {I O J : Type 0} (remaining : I → Option (List ℕ)) (contents : O �
         ∙ ap (λ xs. map (λ (e : Done). e.0) so.done ++ xs) takes.1 ∙ so.names;
     moves = moves_more remaining contents g base window ((o1 ++ o2) ++ o3) [] so.done (d ∷ []) old (with_first (IsDone f.account f.standing) after) after
         (moves_to_done limit o1 o2 o3 old here there after first before now tally streak d so takes f)
-        (one_move remaining contents g base window [] (d ∷ []) (with_first (IsDone f.account f.standing) after) after (inr (inr (inl (record {
+        (one_move remaining contents g base window [] (d ∷ []) (with_first (IsDone f.account f.standing) after) after (inr (inr (inr (inr (inl (record {
           account = f.account;
           standing = f.standing;
           tracks = with_front (IsDone f.account f.standing) after.tracks;
@@ -442,7 +503,7 @@ module _ {I O J : Type 0} (remaining : I → Option (List ℕ)) (contents : O �
           told_is = ap (λ (e : Done). e ∷ []) f.done_is;
           state = refl;
           waiting = refl;
-        })))));
+        })))))));
     tells = adds_more before now then so.done (d ∷ []) so.tells told;
     tally_is = counted ∙ ap (λ (t : Tally). tally_with t d.1) so.tally_is ∙ sym (tally_next so.done d);
     streak_is = next_streak streak longer so.done d so.streak_is met;
@@ -531,29 +592,66 @@ module _ {I O J : Type 0} (remaining : I → Option (List ℕ)) (contents : O �
 
 -- ---- the end of a loop
 
--- at least so many steps are left for a record
+-- at most so many steps are left for a record
 abbrev pub steps_left : {I O : Type 0} → Track I O → ℕ
-steps_left (UnderWay a f) = 1 + (most_exchanges - a.exchanges)
+steps_left (UnderWay a f) = 2 + ((most_exchanges - a.exchanges) + (most_exchanges - a.exchanges))
+steps_left (Delayed a) = 1 + ((most_exchanges - a.exchanges) + (most_exchanges - a.exchanges))
 steps_left (IsDone a standing) = 0
 
-pub fewer_steps : {I O J : Type 0} (remaining : I → Option (List ℕ)) (contents : O → Option (List ℕ)) (g : Ghosts J) (base : List ℕ) (track : Track I O) (opened : List (Opening I O)) (old new : State J) (a : Account) (f : Flight I O)
+fewer_steps : {I O J : Type 0} (remaining : I → Option (List ℕ)) (contents : O → Option (List ℕ)) (g : Ghosts J) (base : List ℕ) (track : Track I O) (opened : List (Opening I O)) (old new : State J) (a : Account) (f : Flight I O)
     → Advances remaining contents g base track opened old new (Ok (UnderWay a f)) → steps_left (UnderWay a f) < steps_left track
 fewer_steps {I} {O} remaining contents g base (UnderWay b e) opened old new a f (inl c) =
     let left : b.exchanges < most_exchanges = c.goes_on.left in
     let counts : a.exchanges ≡ b.exchanges + 1 = ap (λ (x : Account). x.exchanges) c.goes_on.later_is in
     omega (arith, left, counts)
-fewer_steps remaining contents g base (UnderWay b e) opened old new a f (inr ends) = absurd (cc)
+fewer_steps remaining contents g base (UnderWay b e) opened old new a f (inr (inl d)) =
+    let is = d.result_is in absurd (cc)
+fewer_steps remaining contents g base (UnderWay b e) opened old new a f (inr (inr ends)) =
+    let is = ends.3 in absurd (cc)
+fewer_steps {I} {O} remaining contents g base (Delayed b) opened old new a f (same, s) =
+    let left : b.exchanges < most_exchanges = s.left in
+    let counts : a.exchanges ≡ b.exchanges + 1 = ap (λ (x : Account). x.exchanges) s.later_is in
+    omega (arith, left, counts)
 fewer_steps remaining contents g base (IsDone b standing) opened old new a f (none, same, is) = absurd (cc)
 
-pub fewer_left : {I O J : Type 0} (remaining : I → Option (List ℕ)) (contents : O → Option (List ℕ)) (g : Ghosts J) (base : List ℕ) (track first : Track I O) (opened : List (Opening I O)) (old new : State J) (later last : Track I O)
-    → first ≡ track → last ≡ later → ((a : Account) (standing : Standing) → later ≡ IsDone a standing → ⊥) → Advances remaining contents g base first opened old new (Ok later) → steps_left last < steps_left track
-fewer_left {I} {O} remaining contents g base track first opened old new later last same is not advances =
-    subst (λ (t : Track I O). steps_left last < steps_left t) same
-    (subst (λ (t : Track I O). steps_left t < steps_left first) (sym is) (go later not advances))
+fewer_delayed : {I O J : Type 0} (remaining : I → Option (List ℕ)) (contents : O → Option (List ℕ)) (g : Ghosts J) (base : List ℕ) (track : Track I O) (opened : List (Opening I O)) (old new : State J) (a : Account)
+    → Advances remaining contents g base track opened old new (Ok (Delayed a)) → steps_left {I} {O} (Delayed a) < steps_left track
+fewer_delayed remaining contents g base (UnderWay b e) opened old new a (inl c) = absurd c.goes_on
+fewer_delayed {I} {O} remaining contents g base (UnderWay b e) opened old new a (inr (inl d)) =
+    let counts : a.exchanges ≡ b.exchanges = ap exchanges_in d.result_is in
+    omega (arith, counts)
+  where
+    exchanges_in : Result (Track I O) RunFault → ℕ
+    exchanges_in (Ok (UnderWay x f)) = x.exchanges
+    exchanges_in (Ok (Delayed x)) = x.exchanges
+    exchanges_in (Ok (IsDone x standing)) = x.exchanges
+    exchanges_in (Err fault) = 0
+fewer_delayed remaining contents g base (UnderWay b e) opened old new a (inr (inr ends)) =
+    let is = ends.3 in absurd (cc)
+fewer_delayed remaining contents g base (Delayed b) opened old new a (same, goes) = absurd goes
+fewer_delayed remaining contents g base (IsDone b standing) opened old new a (none, same, is) = absurd (cc)
+
+-- a step, or a turn less
+pub fewer_left : {I O J : Type 0} (remaining : I → Option (List ℕ)) (contents : O → Option (List ℕ)) (g : Ghosts J) (base : List ℕ) (turns left : ℕ) (track first : Track I O) (opened : List (Opening I O)) (old new : State J) (later last : Track I O)
+    → first ≡ track → last ≡ later → ((a : Account) (standing : Standing) → later ≡ IsDone a standing → ⊥) → StepsWithin remaining contents g base turns first opened old new (Ok (later, left))
+    → steps_left last + left < steps_left track + turns
+fewer_left {I} {O} remaining contents g base turns left track first opened old new later last same is not steps =
+    subst (λ (t : Track I O). steps_left last + left < steps_left t + turns) same
+    (subst (λ (t : Track I O). steps_left t + left < steps_left first + turns) (sym is) (either steps))
   where
     go : (t : Track I O) → ((a : Account) (standing : Standing) → t ≡ IsDone a standing → ⊥) → Advances remaining contents g base first opened old new (Ok t) → steps_left t < steps_left first
     go (UnderWay a f) not advances = fewer_steps remaining contents g base first opened old new a f advances
+    go (Delayed a) not advances = fewer_delayed remaining contents g base first opened old new a advances
     go (IsDone a standing) not advances = absurd (not a standing refl)
+
+    either : StepsWithin remaining contents g base turns first opened old new (Ok (later, left)) → steps_left later + left < steps_left first + turns
+    either (inl (advances, none)) =
+        let fewer : steps_left later < steps_left first = go later not advances in
+        omega (arith, fewer, none)
+    either (inr ((none, still, stays), less)) =
+        let later_is : later ≡ first = cc in
+        let equal : steps_left later ≡ steps_left first = ap steps_left later_is in
+        omega (arith, equal, less)
 
 -- a record that was given back is the same
 pub kept_is : {I O J : Type 0} (remaining : I → Option (List ℕ)) (g : Ghosts J) (first later : Track I O) (beside : Result (Unit {0}) RunFault) (old new : State J) → Keeps remaining g first beside old new (Ok later) → later ≡ first

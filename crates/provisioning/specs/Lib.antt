@@ -1,4 +1,5 @@
 pub mod Carrying
+pub mod Delays
 pub mod Exchanges
 pub mod Explanations
 pub mod Faults

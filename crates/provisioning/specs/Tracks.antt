@@ -1,5 +1,6 @@
 -- A record while several are under way: how it is begun, how it goes on, and how it ends.
-use Rattle.std.specs.Prelude.{◌≡◌, ◌≢◌, ◌⊎◌, ◌<◌, ◌≤◌, ◌+◌, ℕ, List, [], ◌∷◌, Option, Some, None, Result, Ok, Err}
+use Rattle.std.specs.Prelude.{◌≡◌, ◌≢◌, ◌⊎◌, ◌<◌, ◌≤◌, ◌+◌, ◌==◌, ◌&&◌, ◌||◌, ℕ, Bool, true, false, not, nat_lt}
+use Rattle.std.specs.Prelude.{List, [], ◌∷◌, Option, Some, None, Result, Ok, Err}
 use Rattle.std.specs.Option.{option_or}
 use Rattle.scim_key.specs.declared.records.RecordName.{RecordName}
 use Rattle.scim_message.specs.declared.messages.Answer.{Answer}
@@ -19,27 +20,49 @@ use Rattle.provisioning.specs.Faults.{open_fault}
 use Rattle.provisioning.specs.Openings.{Opening}
 use Rattle.provisioning.specs.Records.{Rests, most_exchanges}
 use Rattle.provisioning.specs.declared.faults.RecordFault.{RecordFault}
+use Rattle.provisioning.specs.declared.faults.RecordFault.TheVariants as faults
 use Rattle.provisioning.specs.declared.faults.RunFault.{RunFault}
 use Rattle.provisioning.specs.declared.records.Standing.{Standing}
 use Rattle.provisioning.specs.declared.records.Standing.TheVariants.{Unconfirmed}
 use Rattle.provisioning.specs.declared.tracks.Account.{Account}
 use Rattle.provisioning.specs.declared.tracks.Flight.{Flight}
 use Rattle.provisioning.specs.declared.tracks.Track.{Track}
-use Rattle.provisioning.specs.declared.tracks.Track.TheVariants.{UnderWay, Done}
+use Rattle.provisioning.specs.declared.tracks.Track.TheVariants.{UnderWay, Delayed, Done}
 
 -- ---- a record and its exchanges so far
 
 -- nothing was sent for it
 abbrev pub fresh : RecordName → Account
-fresh name = record { name = name; exchanges = 0; last = None }
+fresh name = record { name = name; exchanges = 0; last = None; has_waited = false }
 
 -- one exchange more was begun
 abbrev pub counted : Account → Account
-counted a = record { name = a.name; exchanges = a.exchanges + 1; last = a.last }
+counted a = record { name = a.name; exchanges = a.exchanges + 1; last = a.last; has_waited = a.has_waited }
 
 -- an exchange had this fault, or none
 abbrev pub faulted : Option RecordFault → Account → Account
-faulted fault a = record { name = a.name; exchanges = a.exchanges; last = option_or fault a.last }
+faulted fault a =
+    record { name = a.name; exchanges = a.exchanges; last = option_or fault a.last; has_waited = a.has_waited }
+
+-- its next exchange waits, as the provider asked
+abbrev pub put_off : Account → Account
+put_off a = record { name = a.name; exchanges = a.exchanges; last = a.last; has_waited = true }
+
+-- the provider has too many requests, or isn't available
+abbrev pub is_busy : RecordFault → Bool
+is_busy (faults.Refused status) = (status == 429) || (status == 503)
+is_busy (faults.Unanswered fault) = false
+is_busy faults.Unfit = false
+is_busy faults.Unversioned = false
+is_busy faults.NoSuchRecord = false
+
+abbrev pub says_busy : Option RecordFault → Bool
+says_busy (Some fault) = is_busy fault
+says_busy None = false
+
+-- after such an answer the next exchange may wait: once a record, and only if one is left
+abbrev pub may_wait : Option RecordFault → Account → Bool
+may_wait fault a = says_busy fault && (not a.has_waited && nat_lt a.exchanges most_exchanges)
 
 -- all exchanges were made, and the wanted revision isn't confirmed
 pub record IsSpentAt (book : Book) (a : Account) (standing : Standing) : Type 0 where
@@ -82,10 +105,11 @@ ComesOfOpening {I} {O} contents base a request (Ok stream) result = (f : Flight 
     × IsSetOut contents base request stream f × (result ≡ Ok (UnderWay (counted a) f))
 ComesOfOpening contents base a request (Err error) result = result ≡ Err (open_fault error)
 
--- a request is under way, or the record is done and nothing was opened
+-- a request is under way, or the record is done and nothing was opened; it isn't put off
 abbrev pub Begins : {I O : Type 0} → (O → Option (List ℕ)) → List ℕ → Account → (opened : List (Opening I O))
     → Book → Track I O → Type 0
 Begins contents base a opened book (UnderWay later f) = SetsOut contents base a opened book later f
+Begins contents base a opened book (Delayed later) = ⊥
 Begins contents base a opened book (Done later standing) = (opened ≡ []) × (later ≡ a) × StandsAt book a standing
 
 -- so; or exchanges are left, but the stream wasn't opened, or memory ran out before
@@ -130,18 +154,45 @@ module _ {I O J : Type 0} (remaining : I → Option (List ℕ))
     pub learnt : IsLearnt remaining g f old new (Ok fault)
     pub goes_on : GoesOn contents base (faulted fault a) opened (book_of new.book) result
 
+  -- its answer, by which the provider is busy, is learnt from; then it waits
+  pub record Delays (a : Account) (f : Flight I O) (opened : List (Opening I O)) (old new : State J)
+      (result : Result (Track I O) RunFault) : Type 0 where
+    pub fault : Option RecordFault
+    pub learnt : IsLearnt remaining g f old new (Ok fault)
+    pub may : may_wait fault a ≡ true
+    pub opened_none : opened ≡ []
+    pub result_is : result ≡ Ok (Delayed (put_off (faulted fault a)))
+
   -- learning ended the run
   abbrev pub EndsLearning : (f : Flight I O) → (opened : List (Opening I O)) → (old new : State J)
       → (result : Result (Track I O) RunFault) → Type 0
   EndsLearning f opened old new result = (end : RunFault) × IsLearnt remaining g f old new (Err end)
       × (opened ≡ []) × (result ≡ Err end)
 
-  -- one step of a record; a record that is done stays
+  -- nothing happens
+  abbrev pub Stays : Track I O → (opened : List (Opening I O)) → (old new : State J)
+      → Result (Track I O) RunFault → Type 0
+  Stays track opened old new result = (opened ≡ []) × (new ≡ old) × (result ≡ Ok track)
+
+  -- one step of a record; a delayed one goes on, and one that is done stays
   abbrev pub Advances : Track I O → (opened : List (Opening I O)) → (old new : State J)
       → Result (Track I O) RunFault → Type 0
   Advances (UnderWay a f) opened old new result = Continues a f opened old new result
-      ⊎ EndsLearning f opened old new result
-  Advances (Done a standing) opened old new result = (opened ≡ []) × (new ≡ old) × (result ≡ Ok (Done a standing))
+      ⊎ (Delays a f opened old new result ⊎ EndsLearning f opened old new result)
+  Advances (Delayed a) opened old new result = (new ≡ old) × GoesOn contents base a opened (book_of new.book) result
+  Advances (Done a standing) opened old new result = Stays (Done a standing) opened old new result
+
+  -- one step of a record, or none yet
+  abbrev pub Steps : Track I O → (opened : List (Opening I O)) → (old new : State J)
+      → Result (Track I O) RunFault → Type 0
+  Steps track opened old new result = Advances track opened old new result ⊎ Stays track opened old new result
+
+  -- The same, if it may stay only so many times: a step takes none of them, and to stay takes one
+  abbrev pub StepsWithin : (turns : ℕ) → Track I O → (opened : List (Opening I O)) → (old new : State J)
+      → Result (Track I O × ℕ) RunFault → Type 0
+  StepsWithin turns track opened old new (Ok step) = (Advances track opened old new (Ok step.0) × (step.1 ≡ turns))
+      ⊎ (Stays track opened old new (Ok step.0) × (step.1 < turns))
+  StepsWithin turns track opened old new (Err fault) = Advances track opened old new (Err fault)
 
 -- the last of a record: its answer, if one is under way, is learnt from
 abbrev pub Closes : {I O J : Type 0} → (I → Option (List ℕ)) → Ghosts J → Track I O → (old new : State J)
@@ -149,4 +200,5 @@ abbrev pub Closes : {I O J : Type 0} → (I → Option (List ℕ)) → Ghosts J 
 Closes remaining g (UnderWay a f) old new (Ok done) = (fault : Option RecordFault)
     × IsLearnt remaining g f old new (Ok fault)
 Closes remaining g (UnderWay a f) old new (Err fault) = IsLearnt remaining g f old new (Err fault)
+Closes remaining g (Delayed a) old new result = (new ≡ old) × (result ≡ Ok tt)
 Closes remaining g (Done a standing) old new result = (new ≡ old) × (result ≡ Ok tt)

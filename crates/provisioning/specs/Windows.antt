@@ -1,5 +1,5 @@
 -- Many records at once: in which order anything of them may happen.
-use Rattle.std.specs.Prelude.{◌≡◌, ◌⊎◌, ◌<◌, ℕ, suc, cond, nat_lt, List, [], ◌∷◌, ◌++◌, length, map, Option, Some, None, Result, Ok, Err}
+use Rattle.std.specs.Prelude.{◌≡◌, ◌⊎◌, ◌<◌, ℕ, suc, true, cond, nat_lt, List, [], ◌∷◌, ◌++◌, length, map, Option, Some, None, Result, Ok, Err}
 use Rattle.scim_key.specs.declared.records.RecordName.{RecordName}
 use Rattle.journal_core.specs.declared.journals.Journal.{Ghosts}
 use Rattle.connector_core.specs.Book.{Book}
@@ -9,7 +9,7 @@ use Rattle.provisioning.specs.Exchanges.{IsUnmade}
 use Rattle.provisioning.specs.Openings.{Opening}
 use Rattle.provisioning.specs.Runs.{Done, IsUntold, NeverGivesUp, Tells, streak_of, tally_of}
 use Rattle.provisioning.specs.Streaks.{go_on_after}
-use Rattle.provisioning.specs.Tracks.{Advances, Begins, Closes, IsLearnt, fresh, faulted}
+use Rattle.provisioning.specs.Tracks.{Advances, Begins, Closes, IsLearnt, fresh, faulted, may_wait, put_off}
 use Rattle.provisioning.specs.declared.faults.RecordFault.{RecordFault}
 use Rattle.provisioning.specs.declared.faults.RunFault.{RunFault}
 use Rattle.provisioning.specs.declared.pushing.Tally.{Tally}
@@ -24,6 +24,7 @@ use Rattle.provisioning.specs.declared.windows.Window.{Window}
 
 abbrev pub account_of : {I O : Type 0} → Track I O → Account
 account_of (phases.UnderWay a f) = a
+account_of (phases.Delayed a) = a
 account_of (phases.Done a standing) = a
 
 abbrev pub name_of : {I O : Type 0} → Track I O → RecordName
@@ -108,6 +109,32 @@ module _ {I O J : Type 0} (remaining : I → Option (List ℕ))
     pub told_none : told ≡ []
     pub waiting : new.waiting ≡ old.waiting
 
+  -- the answer of a record that is under way is learnt from, and the record waits, since the provider is busy
+  pub record IsDelayed (opened : List (Opening I O)) (told : List Done) (old new : Scene I O J) : Type 0 where
+    pub account : Account
+    pub flight : Flight I O
+    pub fault : Option RecordFault
+    pub others : List (Track I O)
+    pub before : IsWith (phases.UnderWay account flight) others old.tracks
+    pub after : IsWith (phases.Delayed (put_off (faulted fault account))) others new.tracks
+    pub learnt : IsLearnt remaining g flight old.state new.state (Ok fault)
+    pub may : may_wait fault account ≡ true
+    pub opened_none : opened ≡ []
+    pub told_none : told ≡ []
+    pub waiting : new.waiting ≡ old.waiting
+
+  -- a record that waited goes on
+  pub record IsResumed (opened : List (Opening I O)) (told : List Done) (old new : Scene I O J) : Type 0 where
+    pub account : Account
+    pub track : Track I O
+    pub others : List (Track I O)
+    pub before : IsWith (phases.Delayed account) others old.tracks
+    pub after : IsWith track others new.tracks
+    pub begins : Begins contents base account opened (book_of old.state.book) track
+    pub told_none : told ≡ []
+    pub state : new.state ≡ old.state
+    pub waiting : new.waiting ≡ old.waiting
+
   -- a record that is done is reported
   pub record IsReported (opened : List (Opening I O)) (told : List Done) (old new : Scene I O J) : Type 0 where
     pub account : Account
@@ -131,7 +158,8 @@ module _ {I O J : Type 0} (remaining : I → Option (List ℕ))
 
   abbrev pub IsMove : (opened : List (Opening I O)) → (told : List Done) → (old new : Scene I O J) → Type 0
   IsMove opened told old new = IsBegun opened told old new ⊎ (IsContinued opened told old new
-      ⊎ (IsReported opened told old new ⊎ IsMoved opened told old new))
+      ⊎ (IsDelayed opened told old new ⊎ (IsResumed opened told old new
+      ⊎ (IsReported opened told old new ⊎ IsMoved opened told old new))))
 
   -- ---- many moves
 
@@ -154,8 +182,8 @@ module _ {I O J : Type 0} (remaining : I → Option (List ℕ))
     pub unmade : IsUnmade last fault
     pub waits : (last ≡ []) ⊎ ((name : RecordName) × (later : List RecordName) × (scene.waiting ≡ name ∷ later))
 
-  -- The cause of a fault: the next record couldn't be begun; or a record that was under way couldn't go on, or learning
-  -- from its answer ended the run; or a record that is done couldn't be reported. The other records are these
+  -- The cause of a fault: the next record couldn't be begun; or a record that was under way, or waited, couldn't go on,
+  -- or learning from its answer ended the run; or a record that is done couldn't be reported. The other records are these
   abbrev pub Causes : (last : List (Opening I O)) → Scene I O J → (rest : List (Track I O)) → (new : State J)
       → RunFault → Type 0
   Causes last scene rest new fault =

@@ -4,6 +4,8 @@ ghost use Rattle.provisioning.specs.Lists.{Adds};
 ghost use Rattle.provisioning.specs.Openings.{Opening};
 
 use crate::explaining::Failed;
+use crate::recording::Heard;
+use scim_key::RecordName;
 use std::io;
 use std::io::{Read, Write};
 
@@ -26,4 +28,17 @@ pub trait Dial {
 
     /// Hears of the fault of an exchange, after its stream has ended. Whoever explains faults uses it.
     fn explain(&self, _: &Failed<'_>) {}
+
+    /// Whether the next exchange of a record waits, since the answer that was heard asks for it.
+    fn puts_off(&self, _: &RecordName, _: &Heard) -> bool {
+        false
+    }
+
+    /// Whether a record that waits has waited long enough.
+    fn is_due(&self, _: &RecordName) -> bool {
+        true
+    }
+
+    /// Waits until the first of the records that wait is due.
+    fn rest(&self) {}
 }

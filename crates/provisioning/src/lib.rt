@@ -6,6 +6,8 @@
 mod carrying;
 mod changes;
 mod comparing;
+mod delaying;
+mod delays;
 mod dialing;
 mod doubts;
 mod dry_runs;

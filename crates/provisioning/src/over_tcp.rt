@@ -3,6 +3,7 @@ ghost use Rattle.provisioning.specs.Carrying.{CarriesSilentlyAt, CarriesToldAt};
 ghost use Rattle.provisioning.specs.Quiet.{CarriesQuietly, Concludes};
 
 use crate::carrying::{Outcome, carry_at};
+use crate::delaying::Delaying;
 use crate::faults::{RunFault, unwritten};
 use crate::lines::Lines;
 use crate::offering::Hear;
@@ -24,7 +25,7 @@ use timed_streams::TimedHandle;
 
 /// Runs the connector against the provider at an address, HOST:PORT. It prints a line for each record as
 /// soon as the record is done, and reports rows that the connector refuses, and older rows, on standard error.
-/// There it also says what the last fault of an unconfirmed record was.
+/// There it also says what the last fault of an unconfirmed record was, and which records wait, as the provider asks.
 pub fn push<'a, N: Net + Clock + Eprint, J: Journal, W: Write>(
     rt: &'a N,
     alloc: Global,
@@ -80,9 +81,14 @@ fn carry_to<'a, N: Net + Clock + Eprint, J: Journal, T: Hear + Tell + Drop>(
         ⟦<TimedHandle<'a, N::Stream, N> as Write>⟧.contents J.Journal pace T.heard T.told
         service.now sources.now connector.old connector.new result.0 }
 {
-    let last = Cell::new(None);
+    let (last, delays) = (Cell::new(None), Cell::new(None));
     let mut dial = Explaining {
-        dial: Remote::new(alloc, rt, address),
+        dial: Delaying {
+            dial: Remote::new(alloc, rt, address),
+            alloc,
+            runtime: rt,
+            delays: &delays,
+        },
         last: &last,
     };
     let mut explained = Explained {

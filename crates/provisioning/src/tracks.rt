@@ -4,12 +4,12 @@ ghost use Rattle.connector_core.specs.Maps.{book_of};
 ghost use Rattle.provisioning.specs.Lists.{Adds};
 ghost use Rattle.provisioning.specs.Openings.{Opening, Opens};
 ghost use Rattle.provisioning.specs.Records.{most_exchanges};
-ghost use Rattle.provisioning.specs.Tracks.{Advances, Closes, ComesOfOpening, GoesOn, IsHeard, IsLearnt, IsSetOut, StandsAt, counted, faulted, fresh};
+ghost use Rattle.provisioning.specs.Tracks.{Advances, Closes, ComesOfOpening, GoesOn, IsHeard, IsLearnt, IsSetOut, StandsAt, Steps, counted, faulted, fresh, may_wait, put_off, says_busy};
 
 use crate::dialing::Dial;
 use crate::exchanging::{explain, take};
 use crate::faults::{RecordFault, RunFault, open_fault};
-use crate::recording::Recording;
+use crate::recording::{Heard, Recording};
 use crate::records::{Standing, standing_after};
 use connector_core::{Ask, AskFault, Connector, MOST_EXCHANGES};
 use http_text::{Input, Output};
@@ -26,6 +26,8 @@ pub struct Account {
     pub name: RecordName,
     pub exchanges: u32,
     pub last: Option<RecordFault>,
+    /// It waited once, as the provider asked.
+    pub has_waited: bool,
 }
 
 /// A request on its stream, and whether it was sent whole.
@@ -42,6 +44,8 @@ pub struct Flight<R: Drop, W: Drop> {
 pub enum Track<R: Drop, W: Drop> {
     /// An exchange for it is under way.
     UnderWay(Account, Flight<R, W>),
+    /// Its next exchange waits, as the provider asked.
+    Delayed(Account),
     /// It has this state.
     Done(Account, Standing),
 }
@@ -55,6 +59,7 @@ impl Account {
             name,
             exchanges: 0,
             last: None,
+            has_waited: false,
         }
     }
 }
@@ -144,11 +149,13 @@ fn counted(account: Account) -> Account
         name,
         exchanges,
         last,
+        has_waited,
     } = account;
     Account {
         name,
         exchanges: exchanges + 1,
         last,
+        has_waited,
     }
 }
 
@@ -173,15 +180,15 @@ fn send_on<R: Read + Drop, W: Write + Drop>(
 }
 
 /// Reads the answer to a request on its stream, ends the stream, and learns from the answer. It returns the
-/// fault of the record, if there is one.
+/// fault of the record, if there is one, and what came on the stream.
 fn learn_from<J: Journal, D: Dial>(
     alloc: Global,
     connector: &mut Connector<J>,
     dial: &D,
     name: &RecordName,
     flight: Flight<D::Reader, D::Writer>,
-) -> Result<Option<RecordFault>, RunFault>
-    ensures { IsLearnt D.Reader.remaining J.Journal flight connector.old connector.new result }
+) -> (Result<Option<RecordFault>, RunFault>, Heard)
+    ensures { IsLearnt D.Reader.remaining J.Journal flight connector.old connector.new result.0 }
 {
     let Flight {
         request,
@@ -194,7 +201,7 @@ fn learn_from<J: Journal, D: Dial>(
     dial.end(reader, writer);
     let taken = take(connector, &request, &came);
     explain(alloc, connector, dial, name, &request, &heard, &came, taken);
-    taken
+    (taken, heard)
 }
 
 /// Reads the answer to a request, if it was sent whole. It returns the reader too, with what came on it.
@@ -217,7 +224,7 @@ fn hear<R: Read + Drop>(
 }
 
 /// Reads the answer of a record that is under way, learns from it, and sends the next request, if there is
-/// one.
+/// one and it needn't wait. For a record that waited, it sends the next request.
 pub(crate) fn advance<J: Journal, D: Dial>(
     alloc: Global,
     service: &ScimService,
@@ -231,10 +238,74 @@ pub(crate) fn advance<J: Journal, D: Dial>(
 {
     match track {
         Track::UnderWay(account, flight) => {
-            let fault = learn_from(alloc, connector, dial, &account.name, flight)?;
+            let (learnt, heard) = learn_from(alloc, connector, dial, &account.name, flight);
+            let fault = learnt?;
+            if may_wait(&account, fault) && dial.puts_off(&account.name, &heard) {
+                return Ok(Track::Delayed(put_off(faulted(account, fault))));
+            }
             go_on(alloc, service, connector, dial, faulted(account, fault))
         }
+        Track::Delayed(account) => go_on(alloc, service, connector, dial, account),
         Track::Done(account, standing) => Ok(Track::Done(account, standing)),
+    }
+}
+
+/// The same, but a record that waits and isn't due stays as it is.
+pub(crate) fn advance_if_due<J: Journal, D: Dial>(
+    alloc: Global,
+    service: &ScimService,
+    connector: &mut Connector<J>,
+    dial: &mut D,
+    track: Track<D::Reader, D::Writer>,
+) -> Result<Track<D::Reader, D::Writer>, RunFault>
+    ensures { Opens (D.opened dial.old) (D.opened dial.new) (λ opened. Steps
+        D.Reader.remaining D.Writer.contents J.Journal service.now track opened
+        connector.old connector.new result) }
+{
+    if waits(dial, &track) {
+        Ok(track)
+    } else {
+        advance(alloc, service, connector, dial, track)
+    }
+}
+
+/// Whether a record waits and isn't due.
+pub(crate) fn waits<D: Dial>(dial: &D, track: &Track<D::Reader, D::Writer>) -> bool {
+    match track {
+        Track::Delayed(account) => !dial.is_due(&account.name),
+        Track::UnderWay(..) | Track::Done(..) => false,
+    }
+}
+
+/// Whether the next exchange of a record may wait after an exchange with this fault, or none.
+fn may_wait(account: &Account, fault: Option<RecordFault>) -> bool
+    ensures { result ≡ may_wait fault account.now }
+{
+    says_busy(fault) && !account.has_waited && account.exchanges < MOST_EXCHANGES
+}
+
+/// Whether the provider has too many requests (429), or isn't available (503).
+fn says_busy(fault: Option<RecordFault>) -> bool
+    ensures { result ≡ says_busy fault }
+{
+    matches!(fault, Some(RecordFault::Refused(429 | 503)))
+}
+
+/// A record whose next exchange waits.
+fn put_off(account: Account) -> Account
+    ensures { result ≡ put_off account }
+{
+    let Account {
+        name,
+        exchanges,
+        last,
+        ..
+    } = account;
+    Account {
+        name,
+        exchanges,
+        last,
+        has_waited: true,
     }
 }
 
@@ -246,11 +317,13 @@ fn faulted(account: Account, fault: Option<RecordFault>) -> Account
         name,
         exchanges,
         last,
+        has_waited,
     } = account;
     Account {
         name,
         exchanges,
         last: fault.or(last),
+        has_waited,
     }
 }
 
@@ -265,11 +338,12 @@ pub(crate) fn close<J: Journal, D: Dial>(
 {
     match track {
         Track::UnderWay(begun, flight) => {
-            match learn_from(alloc, connector, dial, &begun.name, flight) {
+            let (learnt, _) = learn_from(alloc, connector, dial, &begun.name, flight);
+            match learnt {
                 Ok(_) => Ok(()),
                 Err(fault) => Err(fault),
             }
         }
-        Track::Done(..) => Ok(()),
+        Track::Delayed(_) | Track::Done(..) => Ok(()),
     }
 }

@@ -4,6 +4,7 @@ use crate::explaining::Failed;
 use crate::explanations::Explanation;
 use crate::keeping::{Explanations, keep, take};
 use crate::offering::{Hear, Judged};
+use crate::recording::Heard;
 use crate::records::{Pushed, Standing};
 use crate::telling::Tell;
 use journal_core::kind_word;
@@ -35,6 +36,18 @@ impl<'a, D: Dial + Drop> Dial for Explaining<'a, D> {
     /// Keeps what the fault was. If memory runs out, nothing is known about it.
     fn explain(&self, failed: &Failed<'_>) {
         keep(self.last, failed);
+    }
+
+    fn puts_off(&self, name: &RecordName, heard: &Heard) -> bool {
+        self.dial.puts_off(name, heard)
+    }
+
+    fn is_due(&self, name: &RecordName) -> bool {
+        self.dial.is_due(name)
+    }
+
+    fn rest(&self) {
+        self.dial.rest();
     }
 }
 

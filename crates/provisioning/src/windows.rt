@@ -3,6 +3,7 @@ ghost use Rattle.std.specs.Prelude.{◌≡◌, ◌<◌, ℕ, IsTrue};
 ghost use Rattle.std.specs.VecDeque.{deque_capacity, deque_len};
 ghost use Rattle.connector_core.specs.Maps.{book_of};
 ghost use Rattle.provisioning.specs.Openings.{Opens};
+ghost use Rattle.provisioning.specs.Tracks.{StepsWithin};
 ghost use Rattle.provisioning.specs.Windows.{BeginsNext, Finishes, Goes, Keeps, LooksThrough, PushesAbreast, PushesThrough, TakesFirst, beside, done_of, scene_of, window_of};
 
 use crate::dialing::Dial;
@@ -11,7 +12,7 @@ use crate::pushing::{Tally, tell};
 use crate::records::{Pushed, Standing};
 use crate::streaks::{go_on_after, streak_with};
 use crate::telling::Tell;
-use crate::tracks::{Account, Track, advance, close, go_on};
+use crate::tracks::{Account, Track, advance, advance_if_due, close, go_on, waits};
 use connector_core::Connector;
 use journal_core::Journal;
 use scim_client::ScimService;
@@ -22,6 +23,10 @@ use std::io::{Read, Write};
 
 /// How many records may be begun beside the first that isn't reported, if there are several streams.
 const MOST_BESIDE: usize = 1024;
+
+/// For how many turns of the others the first record may wait. They take fewer: each of `MOST_BESIDE` has at most
+/// three exchanges, and waits once.
+const TURNS_WHILE_WAITING: u32 = 16_384;
 
 /// The records that wait, and those that were begun and aren't reported, both in their order.
 #[derive(Drop)]
@@ -136,7 +141,8 @@ fn begin<J: Journal, D: Dial>(
     }
 }
 
-/// Advances the first record until it is done, and the others beside it.
+/// Advances the first record until it is done, and the others beside it. If all that are under way wait, it rests
+/// until one is due.
 fn finish<J: Journal, D: Dial>(
     alloc: Global,
     service: &ScimService,
@@ -151,16 +157,52 @@ fn finish<J: Journal, D: Dial>(
         (scene_of window.old connector.old) (scene_of window.new connector.new) result) }
 {
     let mut first = first;
+    let mut turns = TURNS_WHILE_WAITING;
     loop {
         let filled = fill(alloc, service, connector, dial, window, streams);
         first = keep(alloc, connector, dial, first, filled)?;
-        first = match advance(alloc, service, connector, dial, first)? {
+        rest(dial, &first, &window.tracks);
+        let (track, left) = advance_first(alloc, service, connector, dial, first, turns)?;
+        first = match track {
             Track::Done(account, standing) => return Ok(done(account, standing)),
             track => track,
         };
+        turns = left;
         let advanced = advance_others(alloc, service, connector, dial, window);
         first = keep(alloc, connector, dial, first, advanced)?;
     }
+}
+
+/// Rests until a record is due, if the first one waits and no exchange is under way beside it.
+fn rest<D: Dial>(
+    dial: &D,
+    first: &Track<D::Reader, D::Writer>,
+    others: &VecDeque<Track<D::Reader, D::Writer>>,
+) {
+    if waits(dial, first) && !is_under_way(others) {
+        dial.rest();
+    }
+}
+
+/// Advances the first record. If it waits, it stays as it is, but only for so many turns. It returns how many turns
+/// are left.
+fn advance_first<J: Journal, D: Dial>(
+    alloc: Global,
+    service: &ScimService,
+    connector: &mut Connector<J>,
+    dial: &mut D,
+    first: Track<D::Reader, D::Writer>,
+    turns: u32,
+) -> Result<(Track<D::Reader, D::Writer>, u32), RunFault>
+    ensures { Opens (D.opened dial.old) (D.opened dial.new) (λ opened. StepsWithin
+        D.Reader.remaining D.Writer.contents J.Journal service.now turns first opened
+        connector.old connector.new result) }
+{
+    if turns > 0 && waits(dial, &first) {
+        return Ok((first, turns - 1));
+    }
+    let track = advance(alloc, service, connector, dial, first)?;
+    Ok((track, turns))
 }
 
 /// The result for a record that is done.
@@ -200,7 +242,7 @@ fn keep<J: Journal, D: Dial>(
     }
 }
 
-/// Advances each record that was begun, and begins none.
+/// Advances each record that was begun, unless it waits, and begins none.
 fn advance_others<J: Journal, D: Dial>(
     alloc: Global,
     service: &ScimService,
@@ -216,13 +258,13 @@ fn advance_others<J: Journal, D: Dial>(
         let Some(track) = window.tracks.pop_front() else {
             return Ok(());
         };
-        let track = advance(alloc, service, connector, dial, track)?;
+        let track = advance_if_due(alloc, service, connector, dial, track)?;
         window.tracks.push_back_reserved(track);
     }
     Ok(())
 }
 
-/// Begins records that wait, until with one more `streams` are under way, or the window is full.
+/// Begins records, until with one more `streams` are under way, or the window is full.
 fn fill<J: Journal, D: Dial>(
     alloc: Global,
     service: &ScimService,
@@ -251,7 +293,7 @@ fn has_room<R: Read + Drop, W: Write + Drop>(tracks: &VecDeque<Track<R, W>>, str
 {
     tracks.len() < tracks.capacity()
         && tracks.len() < beside(streams)
-        && under_way(tracks).saturating_add(1) < streams
+        && with_a_stream(tracks).saturating_add(1) < streams
 }
 
 /// How many records may be begun beside the first that isn't reported.
@@ -261,15 +303,25 @@ fn beside(streams: usize) -> usize
     if streams > 1 { MOST_BESIDE } else { 0 }
 }
 
-/// How many exchanges are under way.
-fn under_way<R: Read + Drop, W: Write + Drop>(tracks: &VecDeque<Track<R, W>>) -> usize {
+/// How many records have a stream: an exchange is under way, or the next one waits.
+fn with_a_stream<R: Read + Drop, W: Write + Drop>(tracks: &VecDeque<Track<R, W>>) -> usize {
     let mut count: usize = 0;
     for track in tracks {
-        if matches!(track, Track::UnderWay(..)) {
+        if !matches!(track, Track::Done(..)) {
             count = count.saturating_add(1);
         }
     }
     count
+}
+
+/// Whether an exchange is under way.
+fn is_under_way<R: Read + Drop, W: Write + Drop>(tracks: &VecDeque<Track<R, W>>) -> bool {
+    for track in tracks {
+        if matches!(track, Track::UnderWay(..)) {
+            return true;
+        }
+    }
+    false
 }
 
 /// Learns from each answer that is under way. A fault is passed over.

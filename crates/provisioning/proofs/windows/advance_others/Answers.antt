@@ -21,8 +21,8 @@ returns-in_err-track g c =
     let b = c.in_err-track.ensures in
     rw (p.1, p.2) (
       so.0 ++ b.0,
-      adds_more (g.D.Dial.opened c.args.dial.now) (g.D.Dial.opened c.loop-turned.dial) (g.D.Dial.opened c.advance.new.dial) so.0 b.0 so.1 b.1,
-      others_stop g.D.Reader.Read.remaining g.D.Writer.Write.contents g.J.Journal c.args.service.now 0 so.0 b.0 (scene_of c.args.window.now c.args.connector.now) c.loop-turned.window.waiting.items c.loop-turned.window.tracks.items c.pop_front.new.self.items c.loop-turned.connector c.advance.new.connector
+      adds_more (g.D.Dial.opened c.args.dial.now) (g.D.Dial.opened c.loop-turned.dial) (g.D.Dial.opened c.advance_if_due.new.dial) so.0 b.0 so.1 b.1,
+      others_stop g.D.Reader.Read.remaining g.D.Writer.Write.contents g.J.Journal c.args.service.now 0 so.0 b.0 (scene_of c.args.window.now c.args.connector.now) c.loop-turned.window.waiting.items c.loop-turned.window.tracks.items c.pop_front.new.self.items c.loop-turned.connector c.advance_if_due.new.connector
           c.in-Some.track c.in_err-track.field-0.0 so.2 c.in-Some.ensures.items b.2,
     )
 
@@ -32,8 +32,8 @@ loop-turned-preserved g c =
     let b = c.in_ok-track.ensures in
     let less : c.loop-turned._turned < length c.args.window.now.tracks.items = omega (arith, c.loop-turned-test.true, c.len-turned-end.ensures, c.args.window.now.tracks.ok.0) in
     let next = others_next g.D.Reader.Read.remaining g.D.Writer.Write.contents g.J.Journal c.args.service.now 0 so.0 b.0 (scene_of c.args.window.now c.args.connector.now) c.loop-turned.window.waiting.items c.loop-turned.window.tracks.items c.pop_front.new.self.items c.push_back_reserved.new.self.items
-    c.loop-turned.connector c.advance.new.connector c.in-Some.track c.in_ok-track.track so.2 c.in-Some.ensures.items c.push_back_reserved.ensures.items b.2 in (
-      (so.0 ++ b.0, adds_more (g.D.Dial.opened c.args.dial.now) (g.D.Dial.opened c.loop-turned.dial) (g.D.Dial.opened c.advance.new.dial) so.0 b.0 so.1 b.1, next.0),
+    c.loop-turned.connector c.advance_if_due.new.connector c.in-Some.track c.in_ok-track.track so.2 c.in-Some.ensures.items c.push_back_reserved.ensures.items b.2 in (
+      (so.0 ++ b.0, adds_more (g.D.Dial.opened c.args.dial.now) (g.D.Dial.opened c.loop-turned.dial) (g.D.Dial.opened c.advance_if_due.new.dial) so.0 b.0 so.1 b.1, next.0),
       c.loop-turned.invariant.1,
       turned_to c.args.window.now.tracks.items c.loop-turned.window.tracks.items c.pop_front.new.self.items c.push_back_reserved.new.self.items c.in-Some.track c.in_ok-track.track c.loop-turned._turned
           c.loop-turned.invariant.2 c.in-Some.ensures.items c.push_back_reserved.ensures.items next.1 less,
