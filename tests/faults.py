@@ -81,7 +81,7 @@ class Number:
 
 
 class Clock(Number):
-    """A run whose steady clock can be set ahead."""
+    """A run whose steady clock can be set ahead. If it sleeps, the clock is set ahead in place of that."""
 
     def __init__(self, shim, folder):
         super().__init__(shim, folder, "CLOCK")

@@ -13,7 +13,8 @@
 
    ACCEPTS           a file of a 64-bit number N: the next N calls that accept a connection fail as if there
                      were no descriptor, and each counts N down
-   CLOCK             a file of a 64-bit number N: the steady clock is N nanoseconds ahead
+   CLOCK             a file of a 64-bit number N: the steady clock is N nanoseconds ahead. A sleep sets it ahead by its
+                     length, and returns at once
    STREAM_WRITES, STREAM_READS
                      a script, as `STEP PLACE:TIMES:ERROR ..`: each call passes at most STEP bytes; once PLACE
                      bytes have passed, TIMES calls fail with this error number, or pass no byte if it is 0
@@ -85,6 +86,14 @@ int clock_gettime(clockid_t clock, struct timespec *now)
         now->tv_nsec = nanoseconds % 1000000000;
     }
     return status;
+}
+
+int nanosleep(const struct timespec *asked, struct timespec *left)
+{
+    if (!ahead)
+        return syscall(SYS_nanosleep, asked, left);
+    *ahead += asked->tv_sec * 1000000000LL + asked->tv_nsec;
+    return 0;
 }
 
 int accept4(int socket, struct sockaddr *address, socklen_t *length, int flags)

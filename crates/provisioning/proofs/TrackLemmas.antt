@@ -65,9 +65,10 @@ pub heard_fault : {I : Type 0} (remaining : I → Option (List ℕ)) (request : 
     → sent ≡ Err fault → IsHeard remaining request reader sent (Err fault)
 heard_fault remaining request reader sent fault is = subst (λ (s : Result (Unit {0}) ExchangeFault). IsHeard remaining request reader s (Err fault)) (sym is) refl
 
-pub ends_learning : {I O J : Type 0} (remaining : I → Option (List ℕ)) (contents : O → Option (List ℕ)) (g : Ghosts J) (base : List ℕ) (track : Track I O) (a : Account) (f : Flight I O) (fault : RunFault) (old new : State J)
-    → track ≡ UnderWay a f → IsLearnt remaining g f old new (Err fault) → Advances remaining contents g base track [] old new (Err fault)
-ends_learning {I} {O} remaining contents g base track a f fault old new is learnt =
+pub ends_learning : {I O J : Type 0} (remaining : I → Option (List ℕ)) (contents : O → Option (List ℕ)) (g : Ghosts J) (base : List ℕ) (track : Track I O) (a : Account) (f : Flight I O) (fault : RunFault) (old new : State J) (said : Result (Option RecordFault) RunFault)
+    → track ≡ UnderWay a f → said ≡ Err fault → IsLearnt remaining g f old new said → Advances remaining contents g base track [] old new (Err fault)
+ends_learning {I} {O} remaining contents g base track a f fault old new said is ends heard =
+    let learnt = subst (λ (r : Result (Option RecordFault) RunFault). IsLearnt remaining g f old new r) ends heard in
     subst (λ (t : Track I O). Advances remaining contents g base t [] old new (Err fault)) (sym is) (inr (inr (fault, learnt, refl, refl)))
 
 pub continues : {I O J : Type 0} (remaining : I → Option (List ℕ)) (contents : O → Option (List ℕ)) (g : Ghosts J) (base : List ℕ) (track : Track I O) (a : Account) (f : Flight I O) (fault : Option RecordFault) (opened : List (Opening I O)) (old new : State J)
@@ -78,9 +79,10 @@ continues {I} {O} remaining contents g base track a f fault opened old new later
     (inl (record { fault = fault; learnt = learnt; goes_on = subst (λ (x : Account). GoesOn contents base x opened (book_of new.book) result) same goes }))
 
 pub delays : {I O J : Type 0} (remaining : I → Option (List ℕ)) (contents : O → Option (List ℕ)) (g : Ghosts J) (base : List ℕ) (track : Track I O) (a : Account) (f : Flight I O) (fault : Option RecordFault) (old new : State J)
-    (later last : Account) → track ≡ UnderWay a f → IsLearnt remaining g f old new (Ok fault) → may_wait fault a ≡ true → later ≡ faulted fault a → last ≡ put_off later
+    (said : Result (Option RecordFault) RunFault) (later last : Account) → track ≡ UnderWay a f → said ≡ Ok fault → IsLearnt remaining g f old new said → may_wait fault a ≡ true → later ≡ faulted fault a → last ≡ put_off later
     → Advances remaining contents g base track [] old new (Ok (Delayed last))
-delays {I} {O} remaining contents g base track a f fault old new later last is learnt may same put =
+delays {I} {O} remaining contents g base track a f fault old new said later last is ok heard may same put =
+    let learnt = subst (λ (r : Result (Option RecordFault) RunFault). IsLearnt remaining g f old new r) ok heard in
     subst (λ (t : Track I O). Advances remaining contents g base t [] old new (Ok (Delayed last))) (sym is)
     (inr (inl (record { fault = fault; learnt = learnt; may = may; opened_none = refl; result_is = ap (λ (x : Account). Ok (Delayed x)) (put ∙ ap put_off same) })))
 

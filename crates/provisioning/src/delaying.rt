@@ -4,7 +4,7 @@ ghost use Rattle.std.specs.Char.{is_ascii_digit};
 ghost use Rattle.std.specs.List.{list_all};
 ghost use Rattle.provisioning.specs.Delays.{is_number, number_in, seconds_in};
 
-use crate::delays::{Delays, delay, take_due, time_left};
+use crate::delays::{Delays, put_off, take_due, time_left};
 use crate::dialing::Dial;
 use crate::explaining::Failed;
 use crate::heads::Head;
@@ -57,7 +57,7 @@ impl<'a, D: Dial + Drop, R: Clock + Eprint> Dial for Delaying<'a, D, R> {
         let Some(due) = self.after(asked.seconds) else {
             return false;
         };
-        if delay(self.alloc, self.delays, name, due).is_err() {
+        if put_off(self.alloc, self.delays, name, due).is_err() {
             return false;
         }
         report(self.runtime, name, asked);

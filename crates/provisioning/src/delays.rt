@@ -6,7 +6,7 @@ use std::time::{Duration, Instant};
 
 /// A record that waits.
 #[derive(Drop)]
-struct Delay {
+struct Waiting {
     name: RecordName,
     due: Instant,
 }
@@ -14,11 +14,11 @@ struct Delay {
 /// The records that wait. Each has a stream of the run, so there are few of them.
 #[derive(Drop)]
 pub(crate) struct Delays {
-    all: Vec<Delay>,
+    all: Vec<Waiting>,
 }
 
 /// Has a record wait until it is due.
-pub(crate) fn delay(
+pub(crate) fn put_off(
     alloc: Global,
     delays: &Cell<Option<Delays>>,
     name: &RecordName,
@@ -56,7 +56,7 @@ pub(crate) fn time_left(delays: &Cell<Option<Delays>>, now: Instant) -> Option<D
 impl Delays {
     fn add(&mut self, name: &RecordName, due: Instant) -> Result<(), AllocError> {
         let name = name.clone()?;
-        self.all.push(Delay { name, due })?;
+        self.all.push(Waiting { name, due })?;
         Ok(())
     }
 
