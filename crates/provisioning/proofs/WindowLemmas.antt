@@ -615,7 +615,7 @@ fewer_steps {I} {O} remaining contents g base (Delayed b) opened old new a f (sa
 fewer_steps remaining contents g base (IsDone b standing) opened old new a f (none, same, is) = absurd (cc)
 
 fewer_delayed : {I O J : Type 0} (remaining : I → Option (List ℕ)) (contents : O → Option (List ℕ)) (g : Ghosts J) (base : List ℕ) (track : Track I O) (opened : List (Opening I O)) (old new : State J) (a : Account)
-    → Advances remaining contents g base track opened old new (Ok (Delayed a)) → steps_left {I} {O} (Delayed a) < steps_left track
+    → Advances remaining contents g base track opened old new (Ok (Delayed a)) → steps_left {I = I} {O = O} (Delayed a) < steps_left track
 fewer_delayed remaining contents g base (UnderWay b e) opened old new a (inl c) = absurd c.goes_on
 fewer_delayed {I} {O} remaining contents g base (UnderWay b e) opened old new a (inr (inl d)) =
     let counts : a.exchanges ≡ b.exchanges = ap exchanges_in d.result_is in
