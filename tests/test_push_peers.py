@@ -31,7 +31,7 @@ UNUSABLE = {
     "C4": {
         "no token": answer(401, HTML),
         "no such service": answer(404),
-        "too many requests": answer(429, Retry_After="60"),
+        "too many requests": answer(429, Retry_After="120"),
         "an error message": answer(500, SCIM_ERROR),
         "a proxy that answers for it": answer(502, HTML, Content_Type="text/html"),
     },
