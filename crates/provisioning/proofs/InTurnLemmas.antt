@@ -119,8 +119,8 @@ module _ {I O J : Type 0} (remaining : I → Option (List ℕ)) (contents : O �
       so_ends remaining contents g base a.name opened last old new new a.exchanges (option_or c.fault a.last) fault (heard_so a f opened old here new c.fault fl c.learnt) c.goes_on.0 (inr (refl, c.goes_on.1))
   stopped_so (UnderWay a f) opened last old here new fault fl (inr (inl d)) =
       let is = d.result_is in absurd (cc)
-  stopped_so (Delayed a) opened last old here new fault so (same, left, unmade) =
-      so_ends remaining contents g base a.name opened last old here new a.exchanges a.last fault so left (inr (same, unmade))
+  stopped_so (Delayed a) opened last old here new fault so (same, goes) =
+      so_ends remaining contents g base a.name opened last old here new a.exchanges a.last fault so goes.0 (inr (same, goes.1))
   stopped_so (UnderWay a f) opened last old here new fault fl (inr (inr (end, l, none, is))) =
       let same : fault ≡ end = cc in
       subst (λ (n : RecordName). EndsRun remaining contents g base n (opened ++ last) old new fault) (sym (ap (λ (x : Account). x.name) fl.sets.later_is))

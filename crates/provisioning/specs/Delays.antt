@@ -6,7 +6,7 @@ use Rattle.std.specs.Str.Parse.{digits_value}
 
 -- 1 to 18 digits
 abbrev pub is_number : List ℕ → Bool
-is_number text = nat_lt 0 (length text) && (nat_le (length text) 18 && list_all is_ascii_digit text)
+is_number text = nat_le 1 (length text) && nat_le (length text) 18 && list_all is_ascii_digit text
 
 abbrev pub number_in : List ℕ → Option ℕ
 number_in text = if is_number text then Some (digits_value 10 text) else None
