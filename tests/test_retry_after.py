@@ -4,15 +4,9 @@ import time
 
 from faults import Clock, build_shim
 from parallel_peers import Directory
-from peers import NO_HITS, Peer, PeerTest, answer, head
+from peers import NO_HITS, Peer, PeerTest, answer, head, user
 from support import TIME_LIMIT, Running, text
 from test_push_abreast import AbreastTest, names
-
-CREATED = answer(201, {
-    "schemas": ["urn:ietf:params:scim:schemas:core:2.0:User"], "id": "7", "userName": "ann",
-    "meta": {"version": '"1"', "created": "2026-11-23T12:00:00Z"},
-})
-
 
 def busy(seconds, status=429):
     return answer(status, Retry_After=seconds)
@@ -36,14 +30,14 @@ class WaitTest(PeerTest):
         self.shim = build_shim(self.folder)
         self.site.write_users("ann,1,,,,,active")
 
-    def sleeps(self, least, steps, *lines, said=(), status=0):
-        """A push whose exchanges have these answers prints these lines, and sleeps for so many seconds."""
+    def sleeps(self, seconds, steps, *lines, said=(), status=0):
+        """A push whose exchanges have these answers prints these lines, and sleeps for so many seconds, up to 1 s less:
+        what the exchange took meanwhile counts."""
         clock = Clock(self.shim, self.folder)
-        with Peer([step if isinstance(step, bytes) else step for step in steps]) as peer:
+        with Peer(steps) as peer:
             run = self.site.push(peer.address, **clock.options)
         self.assertEqual((run.output.decode(), run.errors, run.status), (text(*lines), text(*said), status))
-        self.assertEqual(clock.value > 0, least > 0)
-        self.assertTrue(least - 1 < clock.value / 10**9 <= least, f"{clock.value} ns")
+        self.assertTrue(seconds - 1 < clock.value / 10**9 <= seconds, f"it slept for {clock.value} ns")
 
     def is_followed_at_once(self, value):
         """An exchange after this value comes at once."""
@@ -55,6 +49,18 @@ class WaitTest(PeerTest):
             with self.subTest(status):
                 lines = "user ann unconfirmed C4", waits("ann", 7, status), refused("ann", 7, status)
                 self.sleeps(7, 3 * [busy(7, status)], lines[0], said=lines[1:], status=1)
+
+    def test_it_is_confirmed_after_the_wait(self):
+        steps = [NO_HITS, busy(7, 503), answer(201, user("ann", 1))]
+        self.sleeps(7, steps, "user ann confirmed 1", said=[waits("ann", 7, 503)])
+
+    def test_the_run_ends_after_the_wait(self):
+        """Nobody listens any more. Then the record isn't printed."""
+        clock = Clock(self.shim, self.folder)
+        with Peer([busy(5)]) as peer:
+            run = self.site.push(peer.address, **clock.options)
+        said = waits("ann", 5), "connection fault", f" {peer.address}: Connection refused"
+        self.assertEqual((run.output, run.errors, run.status), (b"", text(*said), 3))
 
     def test_the_longest_wait(self):
         said = waits("ann", 60), refused("ann", 60)
