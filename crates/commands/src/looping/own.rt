@@ -1,8 +1,8 @@
 //! Streams to a provider in the same program: one thread asks and answers.
 use connection::{Listen, serve_next};
 use provider_core::Provider;
-use provisioning::{Dial, Failed, Remote};
-use scim_key::Base;
+use provisioning::{Dial, Failed, Heard, Remote};
+use scim_key::{Base, RecordName};
 use std::alloc::Global;
 use std::cell::RefCell;
 use std::io;
@@ -107,4 +107,15 @@ impl<'r, 'p, 'b, N: Net + Clock, L: Listen + Drop, R: StoredRows> Dial
 
     /// Faults of a provider in this program aren't explained.
     fn explain(&self, _: &Failed<'_>) {}
+
+    /// A provider in this program asks for no wait.
+    fn puts_off(&self, _: &RecordName, _: &Heard) -> bool {
+        false
+    }
+
+    fn is_due(&self, _: &RecordName) -> bool {
+        true
+    }
+
+    fn rest(&self) {}
 }
