@@ -11,6 +11,14 @@ NO_GROUP = "no group that is absent was emptied"
 ABSENT = "(not in the file)"
 
 
+def wrong_header(label, line, kept):
+    """What a push says of a file with this first line, which isn't the header of a snapshot."""
+    first = f"is: {line}" if line else "is empty"
+    return [
+        f"{label}: S1", f"{label}: the first line {first}", f"{label}: the header isn't that of a snapshot: {kept}",
+    ]
+
+
 def confirmed(*records):
     """The lines of a push: `bob 2` is a user, and `group crew 1` a group, at a confirmed revision."""
     spelled = [record if record.startswith("group ") else f"user {record}" for record in records]

@@ -3,7 +3,7 @@ import pathlib
 import tempfile
 
 from databases import department_text, group_entry, make_journal, sql, user_entry, user_text
-from snapshots import ABSENT, NO_GROUP, NOBODY, SNAPSHOT, SnapshotTest, confirmed
+from snapshots import ABSENT, NO_GROUP, NOBODY, SNAPSHOT, SnapshotTest, confirmed, wrong_header
 from support import NOWHERE, Site, resource_id
 
 LAST = {"revision": 2_000_000_000, "epoch": 999_999, "confirmed": 2_000_000_000, "confirmed_epoch": 999_999}
@@ -315,9 +315,12 @@ class UnsureTest(SnapshotTest):
             self.unsure_of_users(content, f"users: there is no record: {NOBODY}")
 
     def test_another_header(self):
-        errors = ["users: S1", f"users: the header isn't that of a snapshot: {NOBODY}"]
-        for content in (b"", b"\n", b"mail\nann@x\n", b"name,members\ncrew,ann\n", b"login,mail,Login\nann,,ann\n"):
-            self.unsure_of_users(content, *errors)
+        for content, line in (
+            (b"", ""), (b"\n", ""), (b"mail\nann@x\n", "mail"), (b"name,members\r\ncrew,ann\r\n", "name,members"),
+            (b"login,mail,Login\nann,,ann\n", "login,mail,Login"), (b"login;\\\n", r"login;\x5C"),
+            ("Größe".encode(), "Größe"), (b"\x1b\xff", r"\x1B\xFF"), (b"m" * 401, "m" * 400),
+        ):
+            self.unsure_of_users(content, *wrong_header("users", line, NOBODY))
 
     def test_a_file_that_ends_within_a_record(self):
         """The last record has too few fields, or a status that is cut."""
@@ -336,8 +339,8 @@ class UnsureTest(SnapshotTest):
             (b"name,members\ncrew,\nduo", empty, "groups record 2: S2", unreadable),
             (b'name,members\ncrew,"', empty, f"groups: a quote may be missing: {NO_GROUP}"),
             (b"name,members\n", [], f"groups: there is no record: {NO_GROUP}"),
-            (b"", [], "groups: S1", f"groups: the header isn't that of a snapshot: {NO_GROUP}"),
-            (b"members\nann\n", [], "groups: S1", f"groups: the header isn't that of a snapshot: {NO_GROUP}"),
+            (b"", [], *wrong_header("groups", "", NO_GROUP)),
+            (b"members\nann\n", [], *wrong_header("groups", "members", NO_GROUP)),
         ):
             self.unsure_of_groups(content, *errors, plan=plan)
 

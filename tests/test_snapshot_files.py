@@ -1,6 +1,6 @@
 """`push --snapshot`: how its files are read, the options beside it, and the arguments that it takes."""
 from databases import group_entry, sql, user_text
-from snapshots import ABSENT, NOBODY, SNAPSHOT, SnapshotTest
+from snapshots import ABSENT, NOBODY, SNAPSHOT, SnapshotTest, wrong_header
 from support import NOWHERE, USERS_HEADER, scimlink, text
 from test_threshold import excess
 
@@ -40,7 +40,7 @@ class ColumnTest(SnapshotTest):
 
     def test_ignored_columns_with_names_that_are_not_ascii(self):
         self.users_say("login,Größe,a\\b", "bob,,")
-        self.plans("user bob new 1 active", errors=["users: ignored columns: Gr\\xC3\\xB6\\xC3\\x9Fe, a\\x5Cb"])
+        self.plans("user bob new 1 active", errors=["users: ignored columns: Größe, a\\x5Cb"])
 
     def test_the_login_alone(self):
         self.users_say("login", "bob")
@@ -92,7 +92,6 @@ class ColumnTest(SnapshotTest):
 
     def test_headers_that_are_not_those_of_a_snapshot(self):
         self.keep(("ann", {}))
-        errors = ["users: S1", f"users: the header isn't that of a snapshot: {NOBODY}"]
         for header, *options in (
             ("mail",),
             ("login;mail",),
@@ -105,7 +104,7 @@ class ColumnTest(SnapshotTest):
         ):
             with self.subTest(header, options=options):
                 self.users_say(header, "ann")
-                self.plans(status=1, errors=errors, options=options)
+                self.plans(status=1, errors=wrong_header("users", header, NOBODY), options=options)
 
     def test_a_file_of_revisions_keeps_its_header(self):
         for header in ("login", USERS_HEADER.upper(), f"{USERS_HEADER},Site"):

@@ -1,10 +1,32 @@
-//! What is said of a snapshot: which of its columns are ignored, and why nobody who is absent is switched off.
+//! What is said of a snapshot: which of its columns are ignored, what its header is, and why nobody who is absent is
+//! switched off.
 use crate::sources::{Source, label};
 use journal_core::Printable;
 use scim_key::Kind;
 use snapshots::Unsure;
 use std::fmt;
 use std::io::Eprint;
+
+/// How many bytes of a header are printed.
+const MOST_SHOWN: usize = 400;
+
+/// A text of others. Printable characters without a backslash are printed as they are, else its bytes as `Printable`.
+#[derive(Clone, Copy)]
+struct Readable<'a>(&'a [u8]);
+
+impl<'a> fmt::Display for Readable<'a> {
+    fn fmt<W: fmt::Write>(&self, f: &mut fmt::Formatter<W>) -> fmt::Result {
+        match str::from_utf8(self.0) {
+            Ok(text) if text.chars().all(is_plain) => f.write_str(text),
+            _ => write!(f, "{}", Printable(self.0)),
+        }
+    }
+}
+
+/// Whether a character is printed as it is.
+fn is_plain(character: char) -> bool {
+    !character.is_control() && character != '\\'
+}
 
 /// Names of columns, with a comma between two.
 #[derive(Clone, Copy)]
@@ -14,7 +36,7 @@ impl<'a> fmt::Display for Names<'a> {
     fn fmt<W: fmt::Write>(&self, f: &mut fmt::Formatter<W>) -> fmt::Result {
         let mut between = "";
         for name in self.0 {
-            write!(f, "{between}{}", Printable(name))?;
+            write!(f, "{between}{}", Readable(name))?;
             between = ", ";
         }
         Ok(())
@@ -64,6 +86,29 @@ pub(crate) fn tell_ignored(rt: &impl Eprint, source: &Source) {
         let (label, names) = (label(source.kind), Names(source.ignored.as_slice()));
         let _ = eprintln!(rt; "{label}: ignored columns: {names}");
     }
+}
+
+/// Whether this byte ends a line.
+fn ends_line(byte: &u8) -> bool {
+    *byte == b'\n' || *byte == b'\r'
+}
+
+/// The first line of a file, as far as it is printed.
+fn first_line(bytes: &[u8]) -> &[u8] {
+    let line = bytes.split(ends_line).next().unwrap_or(bytes);
+    line.get(..MOST_SHOWN).unwrap_or(line)
+}
+
+/// Reports the first line of a file whose header isn't that of a snapshot.
+pub(crate) fn tell_header(rt: &impl Eprint, source: &Source, bytes: &[u8]) {
+    if source.rows.is_some() {
+        return;
+    }
+    let label = label(source.kind);
+    let _ = match first_line(bytes) {
+        [] => eprintln!(rt; "{label}: the first line is empty"),
+        line => eprintln!(rt; "{label}: the first line is: {}", Readable(line)),
+    };
 }
 
 /// Reports why nobody who is absent is switched off, if so.

@@ -6,7 +6,7 @@ ghost use Rattle.provisioning.specs.Reading.{FailsAt, FailsBy, FailsIfNamed, IsR
 ghost use Rattle.provisioning.specs.Sources.{IsWithoutRows, Says, absent_in, are_whole, is_whole, label, path_in, records_of};
 ghost use Rattle.provisioning.specs.Today.{numbering_in};
 
-use crate::doubts::{tell_ignored, tell_unsure};
+use crate::doubts::{tell_header, tell_ignored, tell_unsure};
 use crate::files::ReadFiles;
 use crate::today::{Today, read_today};
 use journal_core::Journal;
@@ -143,8 +143,8 @@ pub fn read_source<J: Journal>(
 }
 
 /// Reads the files, the one of users first: snapshots, if something numbers them. It reports on standard error which
-/// records are rejected, and which have a field over several lines; and of a snapshot which columns are ignored, and
-/// why nobody who is absent is switched off, if so.
+/// records are rejected, and which have a field over several lines; and of a snapshot which columns are ignored, what
+/// its first line is if that isn't a header, and why nobody who is absent is switched off, if so.
 pub fn read_sources<R: ReadFiles + Eprint + AllocGlobal, J: Journal>(
     rt: &R,
     users: &str,
@@ -209,6 +209,7 @@ fn told_source<R: ReadFiles + Eprint + AllocGlobal, J: Journal>(
     tell_refused(rt, &source);
     tell_multiline(rt, &source);
     if today.is_some() {
+        tell_header(rt, &source, bytes.as_slice());
         tell_ignored(rt, &source);
         tell_unsure(rt, &source);
     }
