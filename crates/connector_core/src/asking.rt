@@ -71,8 +71,17 @@ impl Ids for Book {
     }
 }
 
+/// The ids of the users of the connector.
+impl<J: Journal> Ids for Connector<J> {
+    ghost id_of = { λ connector. known_id (book_of connector.book) };
+
+    fn id(&self, key: &Key) -> Option<&ResourceId> {
+        self.book.id(key)
+    }
+}
+
 /// The search for the resource with the name of a row, as the row spells it.
-fn search_for(alloc: Global, row: &Row) -> Result<Request, AllocError>
+pub fn search_for(alloc: Global, row: &Row) -> Result<Request, AllocError>
     ensures { IfOk result (λ request. request ≡ search_for row.now) }
 {
     let (kind, filter) = match row {

@@ -121,7 +121,7 @@ fn is_full(book: &Book, kind: Kind) -> bool
 }
 
 /// The member of a row at a place.
-pub(crate) fn member_at(alloc: Global, row: &Row, place: usize) -> Result<Key, AllocError>
+pub fn member_at(alloc: Global, row: &Row, place: usize) -> Result<Key, AllocError>
     ensures { IfOk result (λ key. key ≡ member_at row.now place) }
 {
     match row {

@@ -19,8 +19,8 @@ mod taking;
 pub use accepting::{
     BookFault, Verdict, accept, accept_is_by_history, histories_rise, new_rows_go_on,
 };
-pub use asking::{Ask, AskFault, MOST_EXCHANGES};
-pub use changing::ChangeFault;
+pub use asking::{Ask, AskFault, MOST_EXCHANGES, search_for};
+pub use changing::{ChangeFault, member_at};
 pub use connectors::Connector;
 pub use knowledge::{Known, Seen};
 pub use laws::{

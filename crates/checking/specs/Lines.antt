@@ -1,0 +1,108 @@
+-- The text of what differs.
+use Rattle.std.specs.Prelude.{ℕ, Bool, true, false, List, [], ◌∷◌, ◌++◌, Option, Some, None, codes, if◌then◌else◌}
+use Rattle.std.specs.Fmt.{decimal}
+use Rattle.std.specs.List.{flat_map}
+use Rattle.scim_key.specs.Revisions.{RevisionValue, revision_text}
+use Rattle.scim_key.specs.declared.records.Kind.{Kind}
+use Rattle.scim_key.specs.declared.records.Kind.TheVariants as kinds
+use Rattle.scim_resource.specs.Contents.{content_kind, content_revision, spelled_name}
+use Rattle.scim_resource.specs.declared.contents.Content.{Content}
+use Rattle.scim_resource.specs.declared.emails.Email.{Email}
+use Rattle.scim_resource.specs.declared.user_texts.UserText.{UserText}
+use Rattle.scim_resource.specs.declared.user_texts.UserText.TheVariants as texts
+use Rattle.journal_core.specs.Printable.{printable_text}
+use Rattle.checking.specs.Aspects.{agrees, content_emails, content_text, is_active, missing, surplus}
+use Rattle.checking.specs.declared.aspects.Aspect.{Aspect}
+use Rattle.checking.specs.declared.aspects.Aspect.TheVariants as aspect
+use Rattle.checking.specs.declared.aspects.Beside.{Beside}
+
+-- ---- the words for an aspect
+
+abbrev pub name_label : Kind → List ℕ
+name_label kinds.User = codes "userName"
+name_label kinds.Group = codes "displayName"
+
+abbrev pub text_label : UserText → List ℕ
+text_label texts.Department = codes "department"
+text_label texts.ExternalId = codes "externalId"
+text_label texts.FamilyName = codes "familyName"
+text_label texts.GivenName = codes "givenName"
+
+-- ---- what a side says
+
+abbrev pub flag_text : Bool → List ℕ
+flag_text true = codes "true"
+flag_text false = codes "false"
+
+-- a text of others, between quotes
+abbrev pub quoted : List ℕ → List ℕ
+quoted text = codes "\"" ++ (printable_text text ++ codes "\"")
+
+abbrev pub quoted_if : Option (List ℕ) → List ℕ
+quoted_if None = codes "none"
+quoted_if (Some text) = quoted text
+
+-- ` work`; nothing if there is no type
+abbrev pub type_text : Option (List ℕ) → List ℕ
+type_text None = []
+type_text (Some text) = codes " " ++ printable_text text
+
+abbrev pub primary_text : Bool → List ℕ
+primary_text true = codes " primary"
+primary_text false = []
+
+-- `"ann@example.org" work primary`
+abbrev pub email_text : Email → List ℕ
+email_text email = quoted email.value ++ (type_text email.type_text ++ primary_text email.primary)
+
+abbrev pub more_text : List Email → List ℕ
+more_text emails = flat_map (λ email. codes " and " ++ email_text email) emails
+
+abbrev pub emails_text : List Email → List ℕ
+emails_text [] = codes "none"
+emails_text (email ∷ emails) = email_text email ++ more_text emails
+
+abbrev pub revision_if : Option RevisionValue → List ℕ
+revision_if None = codes "none"
+revision_if (Some revision) = revision_text revision
+
+abbrev pub id_if : Option (List ℕ) → List ℕ
+id_if None = codes "none"
+id_if (Some id) = printable_text id
+
+-- ---- what differs
+
+-- `LABEL: FOUND, wanted WANTED`
+abbrev pub sides_text : (label found wanted : List ℕ) → List ℕ
+sides_text label found wanted = label ++ (codes ": " ++ (found ++ (codes ", wanted " ++ wanted)))
+
+abbrev pub members_text : (missing surplus : ℕ) → List ℕ
+members_text missing surplus =
+    codes "members: " ++ (decimal missing ++ (codes " missing, " ++ (decimal surplus ++ codes " more")))
+
+-- How a difference in this aspect is printed
+abbrev pub difference_text : Beside → Aspect → List ℕ
+difference_text b aspect.Active =
+    sides_text (codes "active") (flag_text (is_active b.found.content)) (flag_text (is_active b.wanted))
+difference_text b aspect.Name = sides_text (name_label (content_kind b.wanted))
+    (quoted (spelled_name b.found.content)) (quoted (spelled_name b.wanted))
+difference_text b (aspect.Text which) = sides_text (text_label which)
+    (quoted_if (content_text which b.found.content)) (quoted_if (content_text which b.wanted))
+difference_text b aspect.Emails = sides_text (codes "emails")
+    (emails_text (content_emails b.found.content)) (emails_text (content_emails b.wanted))
+difference_text b aspect.Members = members_text (missing b) (surplus b)
+difference_text b aspect.Revision = sides_text (codes "revision")
+    (revision_if (content_revision b.found.content)) (revision_if (content_revision b.wanted))
+difference_text b aspect.Id =
+    codes "id: " ++ (printable_text b.found.id ++ (codes ", known " ++ id_if b.known))
+
+-- what is in front of a difference
+abbrev pub separator : (first : Bool) → List ℕ
+separator true = codes " "
+separator false = codes "; "
+
+-- The differences in these aspects; the first may have others in front
+unfoldable pub differences_text : Beside → (first : Bool) → List Aspect → List ℕ
+differences_text b first [] = []
+differences_text b first (a ∷ more) = if agrees b a then differences_text b first more
+    else separator first ++ (difference_text b a ++ differences_text b false more)

@@ -1,0 +1,230 @@
+//! The text of what differs.
+ghost use Rattle.std.specs.Prelude.{◌≡◌, Some, true};
+ghost use Rattle.std.specs.Option.{option_copied};
+ghost use Rattle.checking.specs.Lines.{difference_text, differences_text, email_text, emails_text, flag_text, id_if, more_text, name_label, primary_text, quoted_if, revision_if, separator, sides_text, text_label, type_text};
+
+use crate::aspects::{Aspect, Beside, content_emails, content_text, is_active};
+use journal_core::Printable;
+use scim_key::{Kind, ResourceId, Revision};
+use scim_resource::{Email, UserText};
+use std::fmt;
+
+/// What differs in these aspects, a text for each, with `; ` between two.
+#[derive(Clone, Copy)]
+pub(crate) struct Differences<'a> {
+    pub beside: &'a Beside,
+    pub aspects: &'a [Aspect],
+}
+
+impl<'a> fmt::Display for Differences<'a> {
+    ghost output = { λ it. Some (differences_text it.beside.now true it.aspects.now) };
+
+    fn fmt<W: fmt::Write>(&self, f: &mut fmt::Formatter<W>) -> fmt::Result {
+        let mut is_first = true;
+        for aspect in self.aspects {
+            if self.beside.agrees(*aspect) {
+                continue;
+            }
+            let difference = Difference {
+                beside: self.beside,
+                aspect: *aspect,
+            };
+            write!(f, "{}{difference}", separator(is_first))?;
+            is_first = false;
+        }
+        Ok(())
+    }
+}
+
+/// What is in front of a difference.
+fn separator(is_first: bool) -> &'static str
+    ensures { result.now ≡ separator is_first }
+{
+    if is_first { " " } else { "; " }
+}
+
+/// A difference in one aspect: `active: true, wanted false`.
+#[derive(Clone, Copy)]
+struct Difference<'a> {
+    beside: &'a Beside,
+    aspect: Aspect,
+}
+
+impl<'a> fmt::Display for Difference<'a> {
+    ghost output = { λ it. Some (difference_text it.beside.now it.aspect) };
+
+    fn fmt<W: fmt::Write>(&self, f: &mut fmt::Formatter<W>) -> fmt::Result {
+        let (wanted, found) = (&self.beside.wanted, self.beside.found.content());
+        match self.aspect {
+            Aspect::Active => {
+                let (found, wanted) = (is_active(found), is_active(wanted));
+                write!(f, "active: {}, wanted {}", Flag(found), Flag(wanted))
+            }
+            Aspect::Name => {
+                let label = name_label(wanted.kind());
+                let (found, wanted) = (Some(found.spelled_name()), Some(wanted.spelled_name()));
+                write!(f, "{label}: {}, wanted {}", Quoted(found), Quoted(wanted))
+            }
+            Aspect::Text(which) => {
+                let label = text_label(which);
+                let (found, wanted) = (content_text(found, which), content_text(wanted, which));
+                write!(f, "{label}: {}, wanted {}", Quoted(found), Quoted(wanted))
+            }
+            Aspect::Emails => {
+                let (found, wanted) = (content_emails(found), content_emails(wanted));
+                write!(f, "emails: {}, wanted {}", Addresses(found), Addresses(wanted))
+            }
+            Aspect::Members => {
+                let (missing, surplus) = (self.beside.missing(), self.beside.surplus());
+                write!(f, "members: {missing} missing, {surplus} more")
+            }
+            Aspect::Revision => {
+                let (found, wanted) = (found.revision(), wanted.revision());
+                write!(f, "revision: {}, wanted {}", RevisionIf(found), RevisionIf(wanted))
+            }
+            Aspect::Id => {
+                let found = Printable(self.beside.found.id().as_str().as_bytes());
+                write!(f, "id: {found}, known {}", IdIf(&self.beside.known))
+            }
+        }
+    }
+}
+
+fn name_label(kind: Kind) -> &'static str
+    ensures { result.now ≡ name_label kind }
+{
+    match kind {
+        Kind::User => "userName",
+        Kind::Group => "displayName",
+    }
+}
+
+fn text_label(which: UserText) -> &'static str
+    ensures { result.now ≡ text_label which }
+{
+    match which {
+        UserText::Department => "department",
+        UserText::ExternalId => "externalId",
+        UserText::FamilyName => "familyName",
+        UserText::GivenName => "givenName",
+    }
+}
+
+#[derive(Clone, Copy)]
+struct Flag(bool);
+
+impl fmt::Display for Flag {
+    ghost output = { λ it. Some (flag_text it.0) };
+
+    fn fmt<W: fmt::Write>(&self, f: &mut fmt::Formatter<W>) -> fmt::Result {
+        f.write_str(if self.0 { "true" } else { "false" })
+    }
+}
+
+/// A text of others between quotes, or `none`.
+#[derive(Clone, Copy)]
+struct Quoted<'a>(Option<&'a str>);
+
+impl<'a> fmt::Display for Quoted<'a> {
+    ghost output = { λ it. Some (quoted_if (option_copied it.0)) };
+
+    fn fmt<W: fmt::Write>(&self, f: &mut fmt::Formatter<W>) -> fmt::Result {
+        match self.0 {
+            Some(text) => write!(f, "\"{}\"", Printable(text.as_bytes())),
+            None => f.write_str("none"),
+        }
+    }
+}
+
+#[derive(Clone, Copy)]
+struct RevisionIf(Option<Revision>);
+
+impl fmt::Display for RevisionIf {
+    ghost output = { λ it. Some (revision_if it.0) };
+
+    fn fmt<W: fmt::Write>(&self, f: &mut fmt::Formatter<W>) -> fmt::Result {
+        match self.0 {
+            Some(revision) => write!(f, "{revision}"),
+            None => f.write_str("none"),
+        }
+    }
+}
+
+#[derive(Clone, Copy)]
+struct IdIf<'a>(&'a Option<ResourceId>);
+
+impl<'a> fmt::Display for IdIf<'a> {
+    ghost output = { λ it. Some (id_if it.0.now) };
+
+    fn fmt<W: fmt::Write>(&self, f: &mut fmt::Formatter<W>) -> fmt::Result {
+        match self.0 {
+            Some(id) => write!(f, "{}", Printable(id.as_str().as_bytes())),
+            None => f.write_str("none"),
+        }
+    }
+}
+
+/// Email addresses, or `none`.
+#[derive(Clone, Copy)]
+struct Addresses<'a>(&'a [Email]);
+
+impl<'a> fmt::Display for Addresses<'a> {
+    ghost output = { λ it. Some (emails_text it.0.now) };
+
+    fn fmt<W: fmt::Write>(&self, f: &mut fmt::Formatter<W>) -> fmt::Result {
+        match self.0.split_first() {
+            Some((email, more)) => write!(f, "{}{}", Address(email), More(more)),
+            None => f.write_str("none"),
+        }
+    }
+}
+
+/// The addresses behind the first.
+#[derive(Clone, Copy)]
+struct More<'a>(&'a [Email]);
+
+impl<'a> fmt::Display for More<'a> {
+    ghost output = { λ it. Some (more_text it.0.now) };
+
+    fn fmt<W: fmt::Write>(&self, f: &mut fmt::Formatter<W>) -> fmt::Result {
+        for email in self.0 {
+            write!(f, " and {}", Address(email))?;
+        }
+        Ok(())
+    }
+}
+
+/// An email address: `"ann@example.org" work primary`.
+#[derive(Clone, Copy)]
+struct Address<'a>(&'a Email);
+
+impl<'a> fmt::Display for Address<'a> {
+    ghost output = { λ it. Some (email_text it.0.now) };
+
+    fn fmt<W: fmt::Write>(&self, f: &mut fmt::Formatter<W>) -> fmt::Result {
+        let value = Printable(self.0.value.as_str().as_bytes());
+        let kind = EmailType(self.0.type_text.as_option());
+        write!(f, "\"{value}\"{kind}{}", primary_text(self.0.primary))
+    }
+}
+
+/// The type of an address, behind a space; nothing if there is none.
+#[derive(Clone, Copy)]
+struct EmailType<'a>(Option<&'a str>);
+
+impl<'a> fmt::Display for EmailType<'a> {
+    ghost output = { λ it. Some (type_text (option_copied it.0)) };
+
+    fn fmt<W: fmt::Write>(&self, f: &mut fmt::Formatter<W>) -> fmt::Result {
+        match self.0 {
+            Some(text) => write!(f, " {}", Printable(text.as_bytes())),
+            None => Ok(()),
+        }
+    }
+}
+
+fn primary_text(is_primary: bool) -> &'static str
+    ensures { result.now ≡ primary_text is_primary }
+{
+    if is_primary { " primary" } else { "" }
+}
