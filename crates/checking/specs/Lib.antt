@@ -1,2 +1,5 @@
 pub mod Aspects
+pub mod Checks
+pub mod Counting
+pub mod Findings
 pub mod Lines

@@ -1,20 +1,30 @@
 -- The text of what differs.
-use Rattle.std.specs.Prelude.{ℕ, Bool, true, false, List, [], ◌∷◌, ◌++◌, Option, Some, None, codes, if◌then◌else◌}
+use Rattle.std.specs.Prelude.{◌≡◌, ℕ, Bool, true, false, List, [], ◌∷◌, ◌++◌, Option, Some, None, codes, if◌then◌else◌}
 use Rattle.std.specs.Fmt.{decimal}
+use Rattle.std.specs.Io.KnownBytes.{Appends}
 use Rattle.std.specs.List.{flat_map}
 use Rattle.scim_key.specs.Revisions.{RevisionValue, revision_text}
 use Rattle.scim_key.specs.declared.records.Kind.{Kind}
 use Rattle.scim_key.specs.declared.records.Kind.TheVariants as kinds
+use Rattle.scim_key.specs.declared.records.RecordName.{RecordName}
 use Rattle.scim_resource.specs.Contents.{content_kind, content_revision, spelled_name}
 use Rattle.scim_resource.specs.declared.contents.Content.{Content}
 use Rattle.scim_resource.specs.declared.emails.Email.{Email}
 use Rattle.scim_resource.specs.declared.user_texts.UserText.{UserText}
 use Rattle.scim_resource.specs.declared.user_texts.UserText.TheVariants as texts
 use Rattle.journal_core.specs.Printable.{printable_text}
+use Rattle.journal_core.specs.Words.{kind_word}
+use Rattle.provisioning.specs.Lines.{record_fault_text}
 use Rattle.checking.specs.Aspects.{agrees, content_emails, content_text, is_active, missing, surplus}
 use Rattle.checking.specs.declared.aspects.Aspect.{Aspect}
 use Rattle.checking.specs.declared.aspects.Aspect.TheVariants as aspect
 use Rattle.checking.specs.declared.aspects.Beside.{Beside}
+use Rattle.checking.specs.declared.aspects.TheConstants.{ASPECTS}
+use Rattle.checking.specs.declared.counts.Counts.{Counts}
+use Rattle.checking.specs.declared.findings.Finding.{Finding}
+use Rattle.checking.specs.declared.findings.Finding.TheVariants.{Found, Above, Gone, Unchecked}
+use Rattle.checking.specs.declared.looking.Hindrance.{Hindrance}
+use Rattle.checking.specs.declared.looking.Hindrance.TheVariants.{Fault, Waits}
 
 -- ---- the words for an aspect
 
@@ -106,3 +116,41 @@ unfoldable pub differences_text : Beside → (first : Bool) → List Aspect → 
 differences_text b first [] = []
 differences_text b first (a ∷ more) = if agrees b a then differences_text b first more
     else separator first ++ (difference_text b a ++ differences_text b false more)
+
+-- ---- the line of a record
+
+-- why a record isn't checked
+abbrev pub hindrance_text : Hindrance → List ℕ
+hindrance_text (Fault fault) = record_fault_text fault
+hindrance_text (Waits member) = codes "waits " ++ member
+
+-- a revision above the wanted one
+abbrev pub above_text : Beside → List ℕ
+above_text b = codes ": revision " ++ (revision_if (content_revision b.found.content)
+    ++ (codes ", above the wanted " ++ revision_if (content_revision b.wanted)))
+
+-- What is printed of a finding behind the record's name
+abbrev pub finding_text : Finding → List ℕ
+finding_text (Found b) = differences_text b true ASPECTS
+finding_text (Above b) = above_text b
+finding_text Gone = codes ": gone"
+finding_text (Unchecked why) = codes ": unchecked " ++ hindrance_text why
+
+-- the line of a record
+abbrev pub finding_line : RecordName → Finding → List ℕ
+finding_line name finding =
+    kind_word name.kind ++ (codes " " ++ (name.key ++ (finding_text finding ++ codes "\n")))
+
+-- ---- the last line
+
+abbrev pub counts_text : Counts → List ℕ
+counts_text counts = codes "checked " ++ (decimal counts.checked ++ (codes ", differing " ++ (decimal counts.differing
+    ++ (codes ", unchecked " ++ decimal counts.unchecked))))
+
+abbrev pub counts_line : Counts → List ℕ
+counts_line counts = counts_text counts ++ codes "\n"
+
+-- a record has this line, or none
+abbrev pub PrintsIf : (printed : Bool) → (before after : Option (List ℕ)) → (line : List ℕ) → Type 0
+PrintsIf true before after line = Appends before after line
+PrintsIf false before after line = after ≡ before

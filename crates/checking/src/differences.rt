@@ -137,7 +137,7 @@ impl<'a> fmt::Display for Quoted<'a> {
 }
 
 #[derive(Clone, Copy)]
-struct RevisionIf(Option<Revision>);
+pub(crate) struct RevisionIf(pub Option<Revision>);
 
 impl fmt::Display for RevisionIf {
     ghost output = { λ it. Some (revision_if it.0) };

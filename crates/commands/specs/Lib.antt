@@ -1,5 +1,6 @@
 pub mod Addresses
 pub mod Causes
+pub mod Comparing
 pub mod Connections
 pub mod Statuses
 pub mod Images

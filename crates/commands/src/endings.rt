@@ -1,10 +1,12 @@
 //! The exit status of a run, by its result.
 ghost use Rattle.std.specs.Prelude.{◌≡◌};
 ghost use Rattle.std.specs.List.{list_all};
+ghost use Rattle.commands.specs.Comparing.{checked_status};
 ghost use Rattle.commands.specs.Statuses.{carried_status, is_confirmed, is_taken, outcome_status, pushed_status, reset_status, run_status, several_status, shown_status, simulated_status};
 
 use crate::looping::LoopFault;
 use crate::status::{CommandFault, Status};
+use checking::Counts;
 use connection::ConnectionFault;
 use journal_store::ResetResult;
 use provisioning::{Outcome, RunFault};
@@ -37,6 +39,17 @@ pub fn pushed_status(ended: Result<Outcome, RunFault>) -> Result<Status, Command
     ensures { result ≡ pushed_status ended }
 {
     Ok(carried_status(ended?))
+}
+
+/// The exit status of a `check`, by the counts of its records.
+pub(crate) fn checked_status(ended: Result<Counts, RunFault>) -> Result<Status, CommandFault>
+    ensures { result ≡ checked_status ended }
+{
+    if ended?.are_in_step() {
+        Ok(Status::Done)
+    } else {
+        Ok(Status::Refused)
+    }
 }
 
 /// The exit status of a `show`, by whether its lines were written.

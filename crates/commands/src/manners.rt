@@ -68,7 +68,7 @@ pub fn is_planned(words: &ArgMatches<'_>) -> bool
 }
 
 /// Whether the arguments ask for a quiet run.
-fn is_quiet(words: &ArgMatches<'_>) -> bool
+pub(crate) fn is_quiet(words: &ArgMatches<'_>) -> bool
     ensures { result ≡ is_set (one_text (found_of words.now) (codes "quiet")) }
 {
     words.get_one("quiet").unwrap_or(false)

@@ -45,7 +45,7 @@ fn look<J: EntryStorage>(alloc: Global, storage: &J) -> Result<Vec<Entry>, Comma
 }
 
 /// The entries of a journal, which is closed.
-fn look_into<E: StoredEntries>(mut entries: E) -> Result<Vec<Entry>, CommandFault>
+pub(crate) fn look_into<E: StoredEntries>(mut entries: E) -> Result<Vec<Entry>, CommandFault>
     ensures { IfOk result (λ list. IsReadFrom E.Journal E.is_closed entries list.items) }
 {
     let list = entries.load();

@@ -33,7 +33,7 @@ pub(crate) fn push_order<J: Journal>(
 }
 
 /// The names of all records, in the order in which they settle.
-pub(crate) fn names_in_order<J: Journal>(
+pub fn names_in_order<J: Journal>(
     connector: &Connector<J>,
 ) -> Result<Vec<RecordName>, RunFault>
     ensures order { IfOk result (λ names. IsSettleOrder (keys connector.now.book) names.items) }

@@ -60,7 +60,7 @@ impl Heard {
 
 /// A reader that notes what came.
 #[derive(Drop)]
-pub(crate) struct Recording<R: Drop> {
+pub struct Recording<R: Drop> {
     pub reader: R,
     pub heard: Heard,
 }

@@ -160,7 +160,7 @@ fn counted(account: Account) -> Account
 }
 
 /// Sends a request on a stream.
-fn send_on<R: Read + Drop, W: Write + Drop>(
+pub fn send_on<R: Read + Drop, W: Write + Drop>(
     alloc: Global,
     service: &ScimService,
     request: Request,
@@ -205,7 +205,7 @@ fn learn_from<J: Journal, D: Dial>(
 }
 
 /// Reads the answer to a request, if it was sent whole. It returns the reader too, with what came on it.
-fn hear<R: Read + Drop>(
+pub fn hear<R: Read + Drop>(
     alloc: Global,
     request: &Request,
     reader: R,

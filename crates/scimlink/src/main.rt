@@ -110,6 +110,7 @@ fn carry_out<R: Runtime + Net + AllocGlobal, K: RowStorage, J: EntryStorage>(
 ) -> Result<Status, CommandFault> {
     match command {
         "answer" => commands::answer(rt, words, store),
+        "check" => commands::check(rt, words, journal),
         "loop" => commands::carry(rt, words, store, journal),
         "map" => commands::map(rt, words),
         "serve" => commands::serve(rt, words, store),

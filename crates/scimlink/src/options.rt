@@ -113,11 +113,42 @@ const GROUPS: OptionText = OptionText {
     help: Help::Text("the file of groups: name,revision,members"),
 };
 
+const TO: OptionText = OptionText {
+    name: "to",
+    value: Value::Text("HOST:PORT"),
+    rule: Rule::Unless("plan"),
+    help: Help::Text("the provider's address"),
+};
+
+const QUIET: OptionText = OptionText {
+    name: "quiet",
+    value: Value::Nothing,
+    rule: Rule::Without("plan"),
+    help: Help::Text("prints only records that aren't confirmed, and counts"),
+};
+
 static COMMANDS: &[CommandText] = &[
     CommandText {
         name: "answer",
         about: "answers one HTTP request from standard input on standard output",
         options: &[BASE, STORE],
+    },
+    CommandText {
+        name: "check",
+        about: "reads each record of a journal back from the provider at an address, and prints what differs",
+        options: &[
+            JOURNAL_THERE,
+            OptionText {
+                rule: Rule::Required,
+                ..TO
+            },
+            BASE,
+            OptionText {
+                help: Help::Text("prints only accounts that are active and shouldn't be, or the other way round"),
+                rule: Rule::Optional,
+                ..QUIET
+            },
+        ],
     },
     CommandText {
         name: "loop",
@@ -143,12 +174,7 @@ static COMMANDS: &[CommandText] = &[
             USERS,
             GROUPS,
             WANTED_JOURNAL,
-            OptionText {
-                name: "to",
-                value: Value::Text("HOST:PORT"),
-                rule: Rule::Unless("plan"),
-                help: Help::Text("the provider's address"),
-            },
+            TO,
             BASE,
             OptionText {
                 name: "snapshot",
@@ -186,12 +212,7 @@ static COMMANDS: &[CommandText] = &[
                 rule: Rule::Optional,
                 help: Help::Text("does nothing if more users than this would be switched off"),
             },
-            OptionText {
-                name: "quiet",
-                value: Value::Nothing,
-                rule: Rule::Without("plan"),
-                help: Help::Text("prints only records that aren't confirmed, and counts"),
-            },
+            QUIET,
             OptionText {
                 name: "streams",
                 value: Value::Count,

@@ -1,0 +1,178 @@
+-- A check: one search for each record, and what its answer says.
+use Rattle.std.specs.Prelude.{◌≡◌, ◌⊎◌, ℕ, List, [], ◌∷◌, ◌++◌, map, Option, None, Result, Ok, Err}
+use Rattle.std.specs.FinMap.{keys}
+use Rattle.std.specs.List.{AllByRecursion, flat_map}
+use Rattle.std.specs.declared.io.Error.{Error}
+use Rattle.scim_key.specs.declared.records.RecordName.{RecordName}
+use Rattle.scim_message.specs.declared.messages.Answer.{Answer}
+use Rattle.scim_client.specs.declared.exchange.ExchangeFault.{ExchangeFault}
+use Rattle.mapping.specs.Settling.{IsSettleOrder}
+use Rattle.connector_core.specs.Book.{Book}
+use Rattle.connector_core.specs.Maps.{BookMap, book_of}
+use Rattle.provisioning.specs.Faults.{open_fault}
+use Rattle.provisioning.specs.Lists.{Adds}
+use Rattle.provisioning.specs.Openings.{Opening}
+use Rattle.provisioning.specs.Runs.{IsUntold}
+use Rattle.provisioning.specs.Tracks.{IsHeard, IsSetOut}
+use Rattle.provisioning.specs.declared.faults.RunFault.{RunFault}
+use Rattle.provisioning.specs.declared.faults.RunFault.TheVariants.{Memory}
+use Rattle.provisioning.specs.declared.tracks.Flight.{Flight}
+use Rattle.checking.specs.Counting.{counts_after, no_counts, with_finding}
+use Rattle.checking.specs.Findings.{finding_of, looking}
+use Rattle.checking.specs.declared.begun.Begun.{Begun}
+use Rattle.checking.specs.declared.begun.Begun.TheVariants.{Asked, Hindered}
+use Rattle.checking.specs.declared.counts.Counts.{Counts}
+use Rattle.checking.specs.declared.findings.Finding.{Finding}
+use Rattle.checking.specs.declared.findings.Finding.TheVariants.{Unchecked}
+use Rattle.checking.specs.declared.looking.Hindrance.{Hindrance}
+use Rattle.checking.specs.declared.looking.Look.{Look}
+
+-- a record and what was found of it
+abbrev pub Told : Type 0
+Told = RecordName × Finding
+
+-- if it is known what was reported before, these records were reported after it
+abbrev pub Tells : (old new : Option (List Told)) → List Told → Type 0
+Tells old new told = Adds old new told
+
+-- ---- a record that was begun
+
+-- a search was sent on its own stream, or none was sent
+module _ {I O : Type 0} (contents : O → Option (List ℕ)) (base : List ℕ) (book : Book) where
+  -- this is the record's search; its text was written to a stream of its own, and it is kept what is wanted
+  pub record IsAsked (name : RecordName) (f : Flight I O) (look : Look) (opened : List (Opening I O)) : Type 0 where
+    pub stream : I × O
+    pub asked : looking book name ≡ Ok look
+    pub opened_are : opened ≡ Ok stream ∷ []
+    pub set_out : IsSetOut contents base look.request stream f
+
+  -- that; or it can't be asked about, and no stream was opened
+  abbrev pub IsBegun : RecordName → (opened : List (Opening I O)) → Begun I O → Type 0
+  IsBegun name opened (Asked f wanted known) =
+      IsAsked name f (record { request = f.request; wanted = wanted; known = known }) opened
+  IsBegun name opened (Hindered why) = (looking book name ≡ Err why) × (opened ≡ [])
+
+-- nothing was sent: the only opening failed, with this error; or memory ran out before any
+abbrev pub IsUnsent : {I O : Type 0} → (opened : List (Opening I O)) → RunFault → Type 0
+IsUnsent opened fault = ((error : Error) × (opened ≡ Err error ∷ []) × (fault ≡ open_fault error))
+    ⊎ ((opened ≡ []) × (fault ≡ Memory))
+
+-- a record was begun, or nothing was sent
+abbrev pub Begins : {I O : Type 0} → (O → Option (List ℕ)) → List ℕ → Book → RecordName
+    → (opened : List (Opening I O)) → Result (Begun I O) RunFault → Type 0
+Begins contents base book name opened (Ok begun) = IsBegun contents base book name opened begun
+Begins contents base book name opened (Err fault) = IsUnsent opened fault
+
+-- ---- its finding
+
+-- what came on the stream of the search says this
+pub record IsHeardAs {I O : Type 0} (remaining : I → Option (List ℕ)) (f : Flight I O)
+    (found : Result Answer ExchangeFault → Finding) (finding : Finding) : Type 0 where
+  pub came : Result Answer ExchangeFault
+  pub heard : IsHeard remaining f.request f.reader f.sent came
+  pub finding_is : finding ≡ found came
+
+abbrev pub IsFound : {I O : Type 0} → (I → Option (List ℕ)) → Begun I O → Finding → Type 0
+IsFound remaining (Asked f wanted known) finding = IsHeardAs remaining f (finding_of wanted known) finding
+IsFound remaining (Hindered why) finding = finding ≡ Unchecked why
+
+-- ---- all records
+
+-- a record, its stream if it was asked about, and its finding
+pub record Checked (I O : Type 0) : Type 0 where
+  pub name : RecordName
+  pub opened : List (Opening I O)
+  pub begun : Begun I O
+  pub finding : Finding
+
+-- a record that was begun, and its stream if it was asked about
+pub record Sent (I O : Type 0) : Type 0 where
+  pub name : RecordName
+  pub opened : List (Opening I O)
+  pub begun : Begun I O
+
+abbrev pub told_of : {I O : Type 0} → Checked I O → Told
+told_of c = (c.name, c.finding)
+
+abbrev pub names_of : {I O : Type 0} → List (Checked I O) → List RecordName
+names_of cs = map (λ c. c.name) cs
+
+abbrev pub openings_of : {I O : Type 0} → List (Checked I O) → List (Opening I O)
+openings_of cs = flat_map (λ c. c.opened) cs
+
+abbrev pub findings_of : {I O : Type 0} → List (Checked I O) → List Finding
+findings_of cs = map (λ c. c.finding) cs
+
+module _ {I O : Type 0} (remaining : I → Option (List ℕ)) (contents : O → Option (List ℕ)) (base : List ℕ)
+    (book : Book) where
+  -- the record's search was sent on its stream, and the finding is that of what came there
+  pub record IsChecked (c : Checked I O) : Type 0 where
+    pub begins : IsBegun contents base book c.name c.opened c.begun
+    pub found : IsFound remaining c.begun c.finding
+
+  abbrev pub IsSent : Sent I O → Type 0
+  IsSent s = IsBegun contents base book s.name s.opened s.begun
+
+  -- each of these records was checked, reported and counted
+  pub record ChecksEach (names : List RecordName) (opened : List (Opening I O)) (before after : Option (List Told))
+      (counts : Counts) : Type 0 where
+    pub checked : List (Checked I O)
+    pub names_are : names ≡ names_of checked
+    pub opened_are : opened ≡ openings_of checked
+    pub each : AllByRecursion IsChecked checked
+    pub told : Tells before after (map told_of checked)
+    pub counts_are : counts ≡ counts_after no_counts (findings_of checked)
+
+  -- The records up to some of these were begun, and then the run ended: the next stream couldn't be opened, a line
+  -- couldn't be written, or memory ran out
+  pub record ChecksSome (names : List RecordName) (opened : List (Opening I O)) (fault : RunFault) : Type 0 where
+    pub sent : List (Sent I O)
+    pub rest : List RecordName
+    pub last : List (Opening I O)
+    pub names_are : names ≡ map (λ s. s.name) sent ++ rest
+    pub opened_are : opened ≡ flat_map (λ s. s.opened) sent ++ last
+    pub each : AllByRecursion IsSent sent
+    pub ends : IsUnsent last fault ⊎ ((last ≡ []) × IsUntold fault)
+
+  abbrev pub ChecksNames : List RecordName → (opened : List (Opening I O)) → (before after : Option (List Told))
+      → Result Counts RunFault → Type 0
+  ChecksNames names opened before after (Ok counts) = ChecksEach names opened before after counts
+  ChecksNames names opened before after (Err fault) = ChecksSome names opened fault
+
+  -- this record was checked, reported, and counted after others
+  pub record ChecksNext (name : RecordName) (counts : Counts) (opened : List (Opening I O))
+      (before after : Option (List Told)) (more : Counts) : Type 0 where
+    pub begun : Begun I O
+    pub finding : Finding
+    pub begins : IsBegun contents base book name opened begun
+    pub found : IsFound remaining begun finding
+    pub told : Tells before after ((name, finding) ∷ [])
+    pub counts_are : more ≡ with_finding counts finding
+
+  abbrev pub ChecksOne : RecordName → (counts : Counts) → (opened : List (Opening I O))
+      → (before after : Option (List Told)) → Result Counts RunFault → Type 0
+  ChecksOne name counts opened before after (Ok more) = ChecksNext name counts opened before after more
+  ChecksOne name counts opened before after (Err fault) = ChecksSome (name ∷ []) opened fault
+
+-- The records of the connector in the order of a push; or memory ran out before the first of them
+abbrev pub Checks : {I O : Type 0} → (I → Option (List ℕ)) → (O → Option (List ℕ)) → List ℕ → BookMap
+    → (opened : List (Opening I O)) → (before after : Option (List Told)) → Result Counts RunFault → Type 0
+Checks remaining contents base book opened before after result =
+    ((names : List RecordName) × IsSettleOrder (keys book) names
+    × ChecksNames remaining contents base (book_of book) names opened before after result)
+    ⊎ ((opened ≡ []) × (result ≡ Err Memory))
+
+-- ---- the printed run
+
+-- the result of a run is its counts if they could be printed; a fault that ended the run stays
+abbrev pub Concludes : (checked result : Result Counts RunFault) → Type 0
+Concludes (Ok counts) (Ok given) = given ≡ counts
+Concludes (Ok counts) (Err fault) = IsUntold fault
+Concludes (Err cause) result = result ≡ Err cause
+
+-- a run and its last line, if it isn't known which streams were opened before, and what was reported before
+abbrev pub ChecksAloud : {I O : Type 0} → (I → Option (List ℕ)) → (O → Option (List ℕ)) → List ℕ → BookMap
+    → Result Counts RunFault → Type 0
+ChecksAloud {I} {O} remaining contents base book result = (opened : List (Opening I O))
+    × (checked : Result Counts RunFault) × Checks remaining contents base book opened None None checked
+    × Concludes checked result

@@ -1,0 +1,108 @@
+-- What is asked about a record, and what the answer says of it.
+use Rattle.std.specs.Prelude.{◌≡◌, ◌==◌, ℕ, Bool, true, false, not, List, [], ◌∷◌, Option, Some, None, Result, Ok, Err, if◌then◌else◌}
+use Rattle.scim_key.specs.Records.{same_name}
+use Rattle.scim_key.specs.Revisions.{RevisionValue, before}
+use Rattle.scim_key.specs.declared.records.RecordName.{RecordName}
+use Rattle.scim_resource.specs.Contents.{content_name, content_revision}
+use Rattle.scim_resource.specs.Rows.{ShownRecord}
+use Rattle.scim_resource.specs.declared.contents.Content.{Content}
+use Rattle.scim_message.specs.declared.messages.Answer.{Answer}
+use Rattle.scim_message.specs.declared.messages.Answer.TheVariants as answers
+use Rattle.scim_client.specs.declared.exchange.ExchangeFault.{ExchangeFault}
+use Rattle.source_csv.specs.declared.rows.Row.{Row}
+use Rattle.mapping.specs.Images.{imaged}
+use Rattle.mapping.specs.declared.groups.ImageFault.{ImageFault}
+use Rattle.mapping.specs.declared.groups.ImageFault.TheVariants.{MemberWithoutId, Memory}
+use Rattle.connector_core.specs.Asking.{search_for}
+use Rattle.connector_core.specs.Book.{Book, known_id, wanted_row}
+use Rattle.connector_core.specs.Changing.{member_at}
+use Rattle.provisioning.specs.declared.faults.RecordFault.{RecordFault}
+use Rattle.provisioning.specs.declared.faults.RecordFault.TheVariants.{NoSuchRecord, Refused, Unanswered, Unfit}
+use Rattle.checking.specs.Aspects.{agrees, is_in_step}
+use Rattle.checking.specs.declared.aspects.Aspect.TheVariants.{Active}
+use Rattle.checking.specs.declared.aspects.Beside.{Beside}
+use Rattle.checking.specs.declared.findings.Finding.{Finding}
+use Rattle.checking.specs.declared.findings.Finding.TheVariants.{Found, Above, Gone, Unchecked}
+use Rattle.checking.specs.declared.looking.Hindrance.{Hindrance}
+use Rattle.checking.specs.declared.looking.Hindrance.TheVariants.{Fault, Waits}
+use Rattle.checking.specs.declared.looking.Look.{Look}
+
+-- ---- what is asked
+
+-- by the image of the wanted row, or its first member without an id (the last case doesn't occur: no image runs out of
+-- memory)
+abbrev pub looking_with : (known : Option (List ℕ)) → Row → Result Content ImageFault → Result Look Hindrance
+looking_with known row (Ok wanted) = Ok (record { request = search_for row; wanted = wanted; known = known })
+looking_with known row (Err (MemberWithoutId place)) = Err (Waits (member_at row place))
+looking_with known row (Err Memory) = Err (Fault Unfit)
+
+abbrev pub looking_at : (id_of : RecordName → Option (List ℕ)) → RecordName → Option Row → Result Look Hindrance
+looking_at id_of name None = Err (Fault NoSuchRecord)
+looking_at id_of name (Some row) = looking_with (id_of name) row (imaged id_of row)
+
+-- The search for a record by its name, beside the image of its wanted row and the id that is known; or why it isn't sent
+abbrev pub looking : Book → RecordName → Result Look Hindrance
+looking book name = looking_at (known_id book) name (wanted_row book name)
+
+-- ---- what the answer says
+
+abbrev pub is_above_by : (wanted found : Option RevisionValue) → Bool
+is_above_by None found = false
+is_above_by (Some wanted) None = false
+is_above_by (Some wanted) (Some found) = before wanted found
+
+-- its revision is above the wanted one
+abbrev pub is_above : Beside → Bool
+is_above b = is_above_by (content_revision b.wanted) (content_revision b.found.content)
+
+abbrev pub finding_of_record : Beside → Finding
+finding_of_record b = if is_above b then Above b else Found b
+
+-- a resource with another name isn't the record's
+abbrev pub finding_beside : Beside → Finding
+finding_beside b = if same_name (content_name b.wanted) (content_name b.found.content)
+    then finding_of_record b else Unchecked (Fault Unfit)
+
+-- a list shows the one resource that was found, or that none was found
+abbrev pub listed : (wanted : Content) → (known : Option (List ℕ)) → (total : ℕ) → List ShownRecord → Finding
+listed wanted known total [] = if total == 0 then Gone else Unchecked (Fault Unfit)
+listed wanted known total (s ∷ []) = if total == 1
+    then finding_beside (record { wanted = wanted; known = known; found = s }) else Unchecked (Fault Unfit)
+listed wanted known total (s ∷ other ∷ more) = Unchecked (Fault Unfit)
+
+abbrev pub answered : (wanted : Content) → (known : Option (List ℕ)) → Answer → Finding
+answered wanted known (answers.List list) = listed wanted known list.total list.resources
+answered wanted known (answers.Error error) = Unchecked (Fault (Refused error.status))
+answered wanted known (answers.Created s) = Unchecked (Fault Unfit)
+answered wanted known (answers.Found s) = Unchecked (Fault Unfit)
+answered wanted known (answers.Replaced s) = Unchecked (Fault Unfit)
+answered wanted known (answers.NotModified kind id version) = Unchecked (Fault Unfit)
+
+-- What came of the search for a record says this of it, beside the wanted content and the known id
+abbrev pub finding_of : (wanted : Content) → (known : Option (List ℕ)) → Result Answer ExchangeFault → Finding
+finding_of wanted known (Ok answer) = answered wanted known answer
+finding_of wanted known (Err fault) = Unchecked (Fault (Unanswered fault))
+
+-- ---- what is counted and printed
+
+abbrev pub is_unchecked : Finding → Bool
+is_unchecked (Found b) = false
+is_unchecked (Above b) = false
+is_unchecked Gone = false
+is_unchecked (Unchecked why) = true
+
+-- what was found isn't what is wanted
+abbrev pub is_differing : Finding → Bool
+is_differing (Found b) = not (is_in_step b)
+is_differing (Above b) = true
+is_differing Gone = true
+is_differing (Unchecked why) = false
+
+-- it has a line; in a quiet run only if the account is active and shouldn't be, or the other way round, or if it
+-- is unchecked
+abbrev pub is_printed : (quiet : Bool) → Finding → Bool
+is_printed false (Found b) = not (is_in_step b)
+is_printed true (Found b) = not (agrees b Active)
+is_printed quiet (Above b) = not quiet
+is_printed quiet Gone = not quiet
+is_printed quiet (Unchecked why) = true

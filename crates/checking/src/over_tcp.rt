@@ -1,0 +1,51 @@
+//! The check against the provider at an address.
+ghost use Rattle.checking.specs.Checks.{ChecksAloud, Concludes};
+
+use crate::counts::Counts;
+use crate::lines::FindingLines;
+use crate::running::check_all;
+use connector_core::Connector;
+use journal_core::Journal;
+use provisioning::{Remote, RunFault, unwritten};
+use scim_client::ScimService;
+use std::alloc::Global;
+use std::io::{Read, Write};
+use std::net::Net;
+use std::time::Clock;
+use timed_streams::TimedHandle;
+
+/// Asks the provider at an address, HOST:PORT, about every record. It prints a line for each that differs or is
+/// unchecked, in a quiet run fewer, and at the end how many there were.
+pub fn check<'a, N: Net + Clock, J: Journal, W: Write>(
+    rt: &'a N,
+    alloc: Global,
+    service: &ScimService,
+    connector: &Connector<J>,
+    is_quiet: bool,
+    address: &str,
+    out: &mut W,
+) -> Result<Counts, RunFault>
+    ensures { ChecksAloud ⟦<TimedHandle<'a, N::Stream, N> as Read>⟧.remaining
+        ⟦<TimedHandle<'a, N::Stream, N> as Write>⟧.contents service.now connector.now.book result }
+{
+    let mut dial = Remote::new(alloc, rt, address);
+    let mut lines = FindingLines { out, is_quiet };
+    let counts = check_all(alloc, service, connector, &mut dial, &mut lines);
+    concluded(counts, lines)
+}
+
+/// Prints the counts of a run that no fault ended.
+fn concluded<W: Write + Drop>(
+    checked: Result<Counts, RunFault>,
+    mut lines: FindingLines<W>,
+) -> Result<Counts, RunFault>
+    ensures { Concludes checked result }
+{
+    match checked {
+        Ok(counts) => match lines.conclude(counts) {
+            Ok(()) => Ok(counts),
+            Err(error) => Err(unwritten(error)),
+        },
+        Err(fault) => Err(fault),
+    }
+}

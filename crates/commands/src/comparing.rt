@@ -1,0 +1,73 @@
+//! `check`: what the provider has, beside what the journal wants.
+ghost use Rattle.std.specs.Prelude.{◌≡◌, IfOk, codes};
+ghost use Rattle.clap.specs.Matches.{found_of, one_text};
+ghost use Rattle.commands.specs.Comparing.{EndsChecking, IsCheckedAt, IsCopyOf};
+ghost use Rattle.commands.specs.Simulating.{is_set};
+
+use crate::endings::checked_status;
+use crate::manners::is_quiet;
+use crate::output::{NotedWriter, standard_output};
+use crate::planning::look_into;
+use crate::status::{CommandFault, Part, Status};
+use crate::words::{base, to};
+use clap::ArgMatches;
+use connector_core::Connector;
+use journal_core::MemoryJournal;
+use provisioning::open_copy;
+use scim_client::ScimService;
+use std::alloc::Global;
+use std::io::{Read, Write};
+use std::net::Net;
+use std::rt::Runtime;
+use storage::{EntryStorage, StoredEntries};
+use timed_streams::TimedHandle;
+
+/// Asks the provider at an address about each record of a journal, and prints what isn't as the journal wants it. The
+/// journal isn't changed, and no request changes anything. If there is no such file, it makes none.
+pub fn check<'a, R: Runtime + Net + AllocGlobal, J: EntryStorage>(
+    rt: &'a R,
+    words: &ArgMatches<'_>,
+    journal: Option<&J>,
+) -> Result<Status, CommandFault>
+    ensures { IfOk result (IsCheckedAt ⟦<TimedHandle<'a, R::Stream, R> as Read>⟧.remaining
+        ⟦<TimedHandle<'a, R::Stream, R> as Write>⟧.contents J.Entries.Journal J.finds
+        J.Entries.is_closed (found_of words.now) journal.entry) }
+{
+    let storage = journal.ok_or(CommandFault::File)?;
+    let to = to(words)?;
+    let service = ScimService::new(base(rt.alloc(), words)?);
+    let connector = copy_of(rt.alloc(), storage)?;
+    let mut out = standard_output(rt)?;
+    check_to(rt, &connector, &service, is_quiet(words), to, &mut out)
+}
+
+/// The connector over a copy of the entries of a journal, which is closed again.
+fn copy_of<J: EntryStorage>(
+    alloc: Global,
+    storage: &J,
+) -> Result<Connector<MemoryJournal>, CommandFault>
+    ensures { IfOk result (λ connector. IsCopyOf J.Entries.Journal (J.finds storage.now)
+        J.Entries.is_closed connector.book) }
+{
+    match storage.look()? {
+        Some(entries) => Ok(open_copy(alloc, look_into(entries)?)?),
+        None => Err(CommandFault::Missing(Part::Journal)),
+    }
+}
+
+/// Asks about each record of a connector, and prints what differs.
+fn check_to<'a, R: Runtime + Net + AllocGlobal, W: Write + Drop>(
+    rt: &'a R,
+    connector: &Connector<MemoryJournal>,
+    service: &ScimService,
+    is_quiet: bool,
+    to: &str,
+    out: &mut NotedWriter<W>,
+) -> Result<Status, CommandFault>
+    ensures { EndsChecking ⟦<TimedHandle<'a, R::Stream, R> as Read>⟧.remaining
+        ⟦<TimedHandle<'a, R::Stream, R> as Write>⟧.contents service.now connector.now.book
+        out.new.last result }
+{
+    let checked = checking::check(rt, rt.alloc(), service, connector, is_quiet, to, out);
+    out.concluded(checked_status(checked))
+}
