@@ -1,7 +1,7 @@
 """Arguments that are invalid, help and the version."""
 from support import CREATE_BOB, PROGRAM, ProgramTest, full_disk, scimlink
 
-COMMANDS = ["answer", "loop", "map", "push", "reset", "serve", "show", "simulate"]
+COMMANDS = ["answer", "check", "loop", "map", "push", "reset", "serve", "show", "simulate"]
 # Arguments that are complete, but for the one that a test adds or leaves out
 LOOP = ["loop", "--users", "absent"]
 PUSH = ["push", "--users", "absent", "--journal", "journal", "--to", "127.0.0.1:1"]

@@ -5,7 +5,7 @@ from databases import OLDER_FORMS, group_entry, make_journal, user_entry
 from support import NOWHERE, ROOT, USERS_HEADER, full_disk, resource_id, scimlink
 from test_push import PushTest
 
-OLDER = "journal fault: it is of an older format, and --plan changes nothing"
+OLDER = "journal fault: it is of an older format, and this command changes nothing"
 
 
 class PlanTest(PushTest):

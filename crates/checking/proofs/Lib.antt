@@ -1,2 +1,3 @@
-mod LineLemmas
 mod CheckLemmas
+mod LineLemmas
+pub mod StepLemmas

@@ -2,4 +2,5 @@ pub mod Aspects
 pub mod Checks
 pub mod Counting
 pub mod Findings
+pub mod Laws
 pub mod Lines

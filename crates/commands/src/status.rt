@@ -117,7 +117,7 @@ pub enum CommandFault {
     #[error("journal fault {0}")]
     JournalFile(journal_store::JournalOpenFault),
     /// The journal is of an older format, which a plan doesn't carry over.
-    #[error("journal fault: it is of an older format, and --plan changes nothing")]
+    #[error("journal fault: it is of an older format, and this command changes nothing")]
     OlderJournal,
     /// No file is named, or a line couldn't be written.
     #[error("file fault")]
