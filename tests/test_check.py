@@ -1,7 +1,7 @@
 """`check`: what a provider has, beside what the journal wants. It changes nothing."""
 import json
 
-from databases import OLDER_FORMS, group_entry, make_journal, user_entry
+from databases import OLDER_FORMS, group_entry, make_journal, make_store, user_entry
 from peers import NO_HITS, Peer, answer, asked, hits, user
 from support import NOWHERE, contents, full_disk, resource_id, scimlink
 from test_push import PushTest
@@ -27,12 +27,14 @@ class CheckTest(PushTest):
         self.assertEqual(self.site.journal.read_bytes(), before)
 
     def checks(self, searches, *lines, status=1, options=(), changed=()):
-        """A check of what a provider over the store has. Before it, somebody replaces parts of these resources by hand;
-        after it, the store has what it had."""
-        with self.serving(searches + 2 * len(changed), "--store", self.site.store) as provider:
-            for path, parts in changed:
-                self.change(provider, path, parts)
-            before = contents(self.site.store)[1]
+        """A check of what a provider over the store has, after somebody replaced parts of these resources by hand. The
+        store keeps what it has."""
+        if changed:
+            with self.serving(2 * len(changed), "--store", self.site.store) as provider:
+                for path, parts in changed:
+                    self.change(provider, path, parts)
+        before = contents(self.site.store)[1]
+        with self.serving(searches, "--store", self.site.store) as provider:
             self.assert_checks(provider.address, *lines, status=status, options=options)
         self.assertEqual(contents(self.site.store)[1], before)
 
@@ -106,6 +108,7 @@ class StoreTest(CheckTest):
         self.join()
         for path in self.folder.glob("store*"):
             path.unlink()
+        make_store(self.site.store)
         self.checks(2, "user ann: gone", "user bob: gone", counts(2, 2))
 
     def test_revisions(self):

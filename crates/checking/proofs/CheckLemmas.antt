@@ -1,5 +1,5 @@
 -- Records that are checked one after another.
-use Rattle.std.proofs.Common.{◌≡◌, ◌⊎◌, ℕ, ◌+◌, ◌<◌, List, [], ◌∷◌, ◌++◌, Option, Some, None, map, length, get_or, take, drop, refl, sym, ap, subst, ◌∙◌, add-one, append_assoc, append-nil}
+use Rattle.std.proofs.Common.{◌≡◌, ◌⊎◌, ℕ, ◌+◌, ◌<◌, List, [], ◌∷◌, ◌++◌, Option, Some, None, Result, Ok, Err, map, length, get_or, take, drop, inl, inr, refl, sym, ap, subst, ◌∙◌, add-one, append_assoc, append-nil}
 use Rattle.std.specs.List.{AllByRecursion, flat_map}
 use Rattle.std.proofs.lemmas.Grind.{flat_map-append}
 use Rattle.std.proofs.lemmas.List.{map-append, take-append-drop}
@@ -7,10 +7,12 @@ use Rattle.std.proofs.Math.Seq.{drop-cons, take-suc}
 use Rattle.scim_key.specs.declared.records.RecordName.{RecordName}
 use Rattle.connector_core.specs.Book.{Book}
 use Rattle.provisioning.specs.Lists.{Adds}
-use Rattle.provisioning.specs.Openings.{Opening}
+use Rattle.provisioning.specs.Openings.{Opening, Opens}
 use Rattle.provisioning.specs.declared.faults.RunFault.{RunFault}
-use Rattle.checking.specs.Checks.{Checked, ChecksEach, ChecksNext, ChecksSome, IsChecked, IsSent, Sent, Tells, Told, findings_of, names_of, openings_of, told_of}
+use Rattle.provisioning.specs.declared.faults.RunFault.TheVariants.{Memory}
+use Rattle.checking.specs.Checks.{Begins, Checked, ChecksEach, ChecksNext, ChecksOne, ChecksSome, IsBegun, IsChecked, IsSent, IsUnsent, Reports, Sent, Tells, Told, findings_of, names_of, openings_of, told_of}
 use Rattle.checking.specs.Counting.{counts_after, no_counts, with_finding}
+use Rattle.checking.specs.declared.begun.Begun.{Begun}
 use Rattle.checking.specs.declared.counts.Counts.{Counts}
 use Rattle.checking.specs.declared.findings.Finding.{Finding}
 
@@ -40,6 +42,12 @@ split_at xs i d h = sym (take-append-drop i xs) ∙ ap (λ l. take i xs ++ l) (r
 
 regrouped : {X : Type 0} (a b c d : List X) → a ++ ((b ++ c) ++ d) ≡ (a ++ b) ++ (c ++ d)
 regrouped a b c d = simp append_assoc
+
+-- ---- a record
+
+-- nothing was opened
+pub none_opened : {X : Type 0} (known : Option (List X)) → Adds known known []
+none_opened known = adds_none known
 
 -- ---- counting
 
@@ -86,17 +94,17 @@ module _ {I O : Type 0} (remaining : I → Option (List ℕ)) (contents : O → 
       → ChecksNext remaining contents base book name counts first between after more
       → ChecksEach remaining contents base book (names ++ name ∷ []) (opened ++ first) before after more
   one_more names name opened first before between after counts more all next =
-      let c : Checked I O = record { name = name; opened = first; begun = next.begun; finding = next.finding } in record {
+      let c : Checked I O = record { name = name; opened = first; begun = next.begun; finding = next.reports.finding } in record {
         checked = all.checked ++ c ∷ [];
         names_are = ap (λ l. l ++ name ∷ []) all.names_are ∙ sym (map-append (λ d. d.name) all.checked (c ∷ []));
         opened_are = ap (λ l. l ++ first) all.opened_are
             ∙ ap (λ l. openings_of all.checked ++ l) (sym (append-nil first))
             ∙ sym (flat_map-append (λ d. d.opened) all.checked (c ∷ []));
-        each = all_joined _ all.checked (c ∷ []) all.each (record { begins = next.begins; found = next.found }, tt);
+        each = all_joined _ all.checked (c ∷ []) all.each (record { begins = next.begins; found = next.reports.found }, tt);
         told = subst (λ l. Tells before after l) (sym (map-append told_of all.checked (c ∷ [])))
-            (adds_more before between after (map told_of all.checked) (told_of c ∷ []) all.told next.told);
-        counts_are = next.counts_are ∙ ap (λ n. with_finding n next.finding) all.counts_are
-            ∙ sym (counted_more no_counts (findings_of all.checked) next.finding)
+            (adds_more before between after (map told_of all.checked) (told_of c ∷ []) all.told next.reports.told);
+        counts_are = next.reports.counts_are ∙ ap (λ n. with_finding n next.reports.finding) all.counts_are
+            ∙ sym (counted_more no_counts (findings_of all.checked) next.reports.finding)
             ∙ ap (λ l. counts_after no_counts l) (sym (map-append (λ d. d.finding) all.checked (c ∷ [])));
       }
 
@@ -123,3 +131,64 @@ module _ {I O : Type 0} (remaining : I → Option (List ℕ)) (contents : O → 
     each = all_joined _ (map sent_of all.checked) some.sent (all_sent all.checked all.each) some.each;
     ends = some.ends;
   }
+
+  -- memory ran out before the record was begun
+  pub unsent : (opened : Option (List (Opening I O))) (name : RecordName) (fault : RunFault)
+      (result : Result (Begun I O) RunFault) → result ≡ Err fault → fault ≡ Memory
+      → Opens opened opened (λ added. Begins contents base book name added result)
+  unsent opened name fault result is memory = ([], adds_none opened, rw (is, memory) (inr (refl, refl)))
+
+  -- the record couldn't be begun
+  pub begin_failed : (old new : Option (List (Opening I O))) (name : RecordName) (counts : Counts)
+      (before after : Option (List Told)) (fault : RunFault) (result : Result Counts RunFault) → result ≡ Err fault
+      → Opens old new (λ opened. IsUnsent opened fault)
+      → Opens old new (λ opened. ChecksOne remaining contents base book name counts opened before after result)
+  begin_failed old new name counts before after fault result is opens = (opens.0, opens.1, rw is (record {
+    sent = [];
+    rest = name ∷ [];
+    last = opens.0;
+    names_are = refl;
+    opened_are = refl;
+    each = tt;
+    ends = inl opens.2;
+  }))
+
+  -- the record was begun, and its finding was reported or not
+  pub reported : (old new : Option (List (Opening I O))) (name : RecordName) (counts : Counts) (begun : Begun I O)
+      (before after : Option (List Told)) (result : Result Counts RunFault)
+      → Opens old new (λ opened. IsBegun contents base book name opened begun)
+      → Reports remaining name begun counts before after result
+      → Opens old new (λ opened. ChecksOne remaining contents base book name counts opened before after result)
+  reported old new name counts begun before after (Ok more) opens reports =
+      (opens.0, opens.1, record { begun = begun; begins = opens.2; reports = reports })
+  reported old new name counts begun before after (Err fault) opens untold = (opens.0, opens.1, record {
+    sent = record { name = name; opened = opens.0; begun = begun } ∷ [];
+    rest = [];
+    last = [];
+    names_are = refl;
+    opened_are = sym (append-nil opens.0) ∙ ap (λ l. l ++ []) (sym (append-nil opens.0));
+    each = (opens.2, tt);
+    ends = inr (refl, untold);
+  })
+
+  -- the records in front of a place were checked, and then the one at this place
+  pub goes_on : (old between new : Option (List (Opening I O))) (names : List RecordName) (i : ℕ) (d : RecordName)
+      (before told after : Option (List Told)) (counts more : Counts) → i < length names
+      → Opens old between (λ opened. ChecksEach remaining contents base book (take i names) opened before told counts)
+      → Opens between new (λ opened. ChecksNext remaining contents base book (get_or names i d) counts opened told after more)
+      → Opens old new (λ opened. ChecksEach remaining contents base book (take (i + 1) names) opened before after more)
+  goes_on old between new names i d before told after counts more h all next =
+      let longer : take (i + 1) names ≡ take i names ++ get_or names i d ∷ [] = rw add-one (take-suc names i d h) in
+      (all.0 ++ next.0, adds_more old between new all.0 next.0 all.1 next.1,
+      rw longer (one_more (take i names) (get_or names i d) all.0 next.0 before told after counts more all.2 next.2))
+
+  -- the same, and that one ended the run
+  pub ends_here : (old between new : Option (List (Opening I O))) (names : List RecordName) (i : ℕ) (d : RecordName)
+      (before told : Option (List Told)) (counts : Counts) (fault : RunFault) → i < length names
+      → Opens old between (λ opened. ChecksEach remaining contents base book (take i names) opened before told counts)
+      → Opens between new (λ opened. ChecksSome remaining contents base book (get_or names i d ∷ []) opened fault)
+      → Opens old new (λ opened. ChecksSome remaining contents base book names opened fault)
+  ends_here old between new names i d before told counts fault h all some =
+      (all.0 ++ some.0, adds_more old between new all.0 some.0 all.1 some.1,
+      subst (λ ns. ChecksSome remaining contents base book ns (all.0 ++ some.0) fault) (sym (split_at names i d h))
+      (ended_at (take i names) (get_or names i d) (drop (i + 1) names) all.0 some.0 before told counts fault all.2 some.2))

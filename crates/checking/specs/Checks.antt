@@ -5,6 +5,8 @@ use Rattle.std.specs.List.{AllByRecursion, flat_map}
 use Rattle.std.specs.declared.io.Error.{Error}
 use Rattle.scim_key.specs.declared.records.RecordName.{RecordName}
 use Rattle.scim_message.specs.declared.messages.Answer.{Answer}
+use Rattle.scim_message.specs.declared.messages.Request.{Request}
+use Rattle.scim_resource.specs.declared.contents.Content.{Content}
 use Rattle.scim_client.specs.declared.exchange.ExchangeFault.{ExchangeFault}
 use Rattle.mapping.specs.Settling.{IsSettleOrder}
 use Rattle.connector_core.specs.Book.{Book}
@@ -25,7 +27,6 @@ use Rattle.checking.specs.declared.counts.Counts.{Counts}
 use Rattle.checking.specs.declared.findings.Finding.{Finding}
 use Rattle.checking.specs.declared.findings.Finding.TheVariants.{Unchecked}
 use Rattle.checking.specs.declared.looking.Hindrance.{Hindrance}
-use Rattle.checking.specs.declared.looking.Look.{Look}
 
 -- a record and what was found of it
 abbrev pub Told : Type 0
@@ -37,19 +38,19 @@ Tells old new told = Adds old new told
 
 -- ---- a record that was begun
 
--- a search was sent on its own stream, or none was sent
 module _ {I O : Type 0} (contents : O → Option (List ℕ)) (base : List ℕ) (book : Book) where
-  -- this is the record's search; its text was written to a stream of its own, and it is kept what is wanted
-  pub record IsAsked (name : RecordName) (f : Flight I O) (look : Look) (opened : List (Opening I O)) : Type 0 where
+  -- the record's search was written to a stream of its own, beside what is wanted of the record and its known id
+  pub record IsAsked (name : RecordName) (f : Flight I O) (wanted : Content) (known : Option (List ℕ))
+      (opened : List (Opening I O)) : Type 0 where
     pub stream : I × O
-    pub asked : looking book name ≡ Ok look
+    pub request : Request
+    pub asked : looking book name ≡ Ok (record { request = request; wanted = wanted; known = known })
     pub opened_are : opened ≡ Ok stream ∷ []
-    pub set_out : IsSetOut contents base look.request stream f
+    pub set_out : IsSetOut contents base request stream f
 
   -- that; or it can't be asked about, and no stream was opened
   abbrev pub IsBegun : RecordName → (opened : List (Opening I O)) → Begun I O → Type 0
-  IsBegun name opened (Asked f wanted known) =
-      IsAsked name f (record { request = f.request; wanted = wanted; known = known }) opened
+  IsBegun name opened (Asked f wanted known) = IsAsked name f wanted known opened
   IsBegun name opened (Hindered why) = (looking book name ≡ Err why) × (opened ≡ [])
 
 -- nothing was sent: the only opening failed, with this error; or memory ran out before any
@@ -75,6 +76,25 @@ pub record IsHeardAs {I O : Type 0} (remaining : I → Option (List ℕ)) (f : F
 abbrev pub IsFound : {I O : Type 0} → (I → Option (List ℕ)) → Begun I O → Finding → Type 0
 IsFound remaining (Asked f wanted known) finding = IsHeardAs remaining f (finding_of wanted known) finding
 IsFound remaining (Hindered why) finding = finding ≡ Unchecked why
+
+-- the counts with one record more, if it was reported
+abbrev pub counted : Counts → Finding → Result (Unit {0}) RunFault → Result Counts RunFault
+counted counts finding (Ok told) = Ok (with_finding counts finding)
+counted counts finding (Err fault) = Err fault
+
+-- a record that was begun has its finding, which was reported and counted
+pub record ReportsOne {I O : Type 0} (remaining : I → Option (List ℕ)) (name : RecordName) (begun : Begun I O)
+    (counts : Counts) (before after : Option (List Told)) (more : Counts) : Type 0 where
+  pub finding : Finding
+  pub found : IsFound remaining begun finding
+  pub told : Tells before after ((name, finding) ∷ [])
+  pub counts_are : more ≡ with_finding counts finding
+
+-- that; or a line couldn't be written, or memory ran out
+abbrev pub Reports : {I O : Type 0} → (I → Option (List ℕ)) → RecordName → Begun I O → Counts
+    → (before after : Option (List Told)) → Result Counts RunFault → Type 0
+Reports remaining name begun counts before after (Ok more) = ReportsOne remaining name begun counts before after more
+Reports remaining name begun counts before after (Err fault) = IsUntold fault
 
 -- ---- all records
 
@@ -143,11 +163,8 @@ module _ {I O : Type 0} (remaining : I → Option (List ℕ)) (contents : O → 
   pub record ChecksNext (name : RecordName) (counts : Counts) (opened : List (Opening I O))
       (before after : Option (List Told)) (more : Counts) : Type 0 where
     pub begun : Begun I O
-    pub finding : Finding
     pub begins : IsBegun contents base book name opened begun
-    pub found : IsFound remaining begun finding
-    pub told : Tells before after ((name, finding) ∷ [])
-    pub counts_are : more ≡ with_finding counts finding
+    pub reports : ReportsOne remaining name begun counts before after more
 
   abbrev pub ChecksOne : RecordName → (counts : Counts) → (opened : List (Opening I O))
       → (before after : Option (List Told)) → Result Counts RunFault → Type 0
@@ -171,8 +188,8 @@ Concludes (Ok counts) (Err fault) = IsUntold fault
 Concludes (Err cause) result = result ≡ Err cause
 
 -- a run and its last line, if it isn't known which streams were opened before, and what was reported before
-abbrev pub ChecksAloud : {I O : Type 0} → (I → Option (List ℕ)) → (O → Option (List ℕ)) → List ℕ → BookMap
-    → Result Counts RunFault → Type 0
+abbrev pub ChecksAloud : {I O : Type 0} → (I → Option (List ℕ)) → (O → Option (List ℕ)) → List ℕ
+    → BookMap → Result Counts RunFault → Type 0
 ChecksAloud {I} {O} remaining contents base book result = (opened : List (Opening I O))
     × (checked : Result Counts RunFault) × Checks remaining contents base book opened None None checked
     × Concludes checked result

@@ -36,11 +36,13 @@ looking_with known row (Ok wanted) = Ok (record { request = search_for row; want
 looking_with known row (Err (MemberWithoutId place)) = Err (Waits (member_at row place))
 looking_with known row (Err Memory) = Err (Fault Unfit)
 
-abbrev pub looking_at : (id_of : RecordName → Option (List ℕ)) → RecordName → Option Row → Result Look Hindrance
+abbrev pub looking_at : (id_of : RecordName → Option (List ℕ)) → RecordName → Option Row
+    → Result Look Hindrance
 looking_at id_of name None = Err (Fault NoSuchRecord)
 looking_at id_of name (Some row) = looking_with (id_of name) row (imaged id_of row)
 
--- The search for a record by its name, beside the image of its wanted row and the id that is known; or why it isn't sent
+-- The search for a record by its name, beside the image of its wanted row and the id that is known; or why it isn't
+-- sent
 abbrev pub looking : Book → RecordName → Result Look Hindrance
 looking book name = looking_at (known_id book) name (wanted_row book name)
 
@@ -64,7 +66,8 @@ finding_beside b = if same_name (content_name b.wanted) (content_name b.found.co
     then finding_of_record b else Unchecked (Fault Unfit)
 
 -- a list shows the one resource that was found, or that none was found
-abbrev pub listed : (wanted : Content) → (known : Option (List ℕ)) → (total : ℕ) → List ShownRecord → Finding
+abbrev pub listed : (wanted : Content) → (known : Option (List ℕ)) → (total : ℕ) → List ShownRecord
+    → Finding
 listed wanted known total [] = if total == 0 then Gone else Unchecked (Fault Unfit)
 listed wanted known total (s ∷ []) = if total == 1
     then finding_beside (record { wanted = wanted; known = known; found = s }) else Unchecked (Fault Unfit)

@@ -24,4 +24,5 @@ pub record IsAsWanted (b : Beside) : Type 0 where
 
 -- a resource agrees in every aspect exactly if it is as wanted
 abbrev pub InStepMeans : Type 0
-InStepMeans = (b : Beside) → IsContent b.wanted → IsContent b.found.content → (is_in_step b ≡ true) ↔ IsAsWanted b
+InStepMeans = (b : Beside) → IsContent b.wanted → IsContent b.found.content
+    → (is_in_step b ≡ true) ↔ IsAsWanted b

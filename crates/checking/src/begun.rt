@@ -6,7 +6,7 @@ ghost use Rattle.provisioning.specs.declared.faults.RunFault.TheVariants.{Memory
 ghost use Rattle.checking.specs.Checks.{Begins, IsFound};
 
 use crate::findings::Finding;
-use crate::looking::{Hindrance, Look, look};
+use crate::looking::{Hindrance, Look, look_up};
 use connector_core::Connector;
 use journal_core::Journal;
 use provisioning::{Dial, Flight, Recording, RunFault, hear, open_fault, send_on};
@@ -35,7 +35,7 @@ pub(crate) fn begin<J: Journal, D: Dial>(
     ensures { Opens (D.opened dial.old) (D.opened dial.new) (λ opened. Begins
         D.Writer.contents service.now (book_of connector.now.book) name.now opened result) }
 {
-    let look = match look(alloc, connector, name)? {
+    let look = match look_up(alloc, connector, name)? {
         Ok(look) => look,
         Err(why) => return Ok(Begun::Hindered(why)),
     };

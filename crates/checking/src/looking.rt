@@ -46,7 +46,7 @@ impl fmt::Display for Hindrance {
 }
 
 /// The search for a record, or why it isn't sent.
-pub(crate) fn look<J: Journal>(
+pub(crate) fn look_up<J: Journal>(
     alloc: Global,
     connector: &Connector<J>,
     name: &RecordName,

@@ -3,9 +3,9 @@ ghost use Rattle.std.specs.Prelude.{◌≡◌, ◌∷◌, [], IfErr, OnOk};
 ghost use Rattle.connector_core.specs.Maps.{book_of};
 ghost use Rattle.provisioning.specs.Openings.{Opens};
 ghost use Rattle.provisioning.specs.Runs.{IsUntold};
-ghost use Rattle.checking.specs.Checks.{Checks, ChecksNames, ChecksOne, Tells};
+ghost use Rattle.checking.specs.Checks.{Checks, ChecksNames, ChecksOne, Reports, Tells, counted};
 
-use crate::begun::{begin, finish};
+use crate::begun::{Begun, begin, finish};
 use crate::counts::Counts;
 use crate::findings::Finding;
 use crate::telling::TellFinding;
@@ -69,9 +69,38 @@ fn check_one<J: Journal, D: Dial, T: TellFinding>(
         (T.told teller.old) (T.told teller.new) result) }
 {
     let begun = begin(alloc, service, connector, dial, name)?;
+    report(alloc, dial, teller, name, begun, counts)
+}
+
+/// Reads the answer about a record, reports the finding, and counts it.
+fn report<D: Dial, T: TellFinding>(
+    alloc: Global,
+    dial: &D,
+    teller: &mut T,
+    name: &RecordName,
+    begun: Begun<D::Reader, D::Writer>,
+    counts: Counts,
+) -> Result<Counts, RunFault>
+    ensures { Reports D.Reader.remaining name.now begun counts (T.told teller.old)
+        (T.told teller.new) result }
+{
     let finding = finish(alloc, dial, begun)?;
-    tell(teller, name, &finding)?;
-    Ok(counts.with(&finding))
+    let told = tell(teller, name, &finding);
+    counted(counts, &finding, told)
+}
+
+/// The counts with one record more, if it was reported.
+fn counted(
+    counts: Counts,
+    finding: &Finding,
+    told: Result<(), RunFault>,
+) -> Result<Counts, RunFault>
+    ensures { result ≡ counted counts finding.now told }
+{
+    match told {
+        Ok(()) => Ok(counts.with(finding)),
+        Err(fault) => Err(fault),
+    }
 }
 
 /// Reports the finding of a record.
