@@ -1,16 +1,17 @@
 -- Records that are checked one after another.
-use Rattle.std.proofs.Common.{◌≡◌, ◌⊎◌, ℕ, ◌+◌, ◌<◌, List, [], ◌∷◌, ◌++◌, Option, Some, None, Result, Ok, Err, map, length, get_or, take, drop, inl, inr, refl, sym, ap, subst, ◌∙◌, add-one, append_assoc, append-nil}
+use Rattle.std.proofs.Common.{◌≡◌, ◌⊎◌, ℕ, ◌+◌, ◌<◌, ◌≤◌, List, [], ◌∷◌, ◌++◌, Option, Some, None, Result, Ok, Err, map, length, get_or, take, drop, inl, inr, refl, sym, ap, subst, ◌∙◌, add-one, append_assoc, append-nil}
 use Rattle.std.specs.List.{AllByRecursion, flat_map}
 use Rattle.std.proofs.lemmas.Grind.{flat_map-append}
-use Rattle.std.proofs.lemmas.List.{map-append, take-append-drop}
+use Rattle.std.proofs.lemmas.List.{map-append, take-append-drop, take_all}
 use Rattle.std.proofs.Math.Seq.{drop-cons, take-suc}
 use Rattle.scim_key.specs.declared.records.RecordName.{RecordName}
 use Rattle.connector_core.specs.Book.{Book}
+use Rattle.connector_core.specs.Maps.{BookMap}
 use Rattle.provisioning.specs.Lists.{Adds}
 use Rattle.provisioning.specs.Openings.{Opening, Opens}
 use Rattle.provisioning.specs.declared.faults.RunFault.{RunFault}
 use Rattle.provisioning.specs.declared.faults.RunFault.TheVariants.{Memory}
-use Rattle.checking.specs.Checks.{Begins, Checked, ChecksEach, ChecksNext, ChecksOne, ChecksSome, IsBegun, IsChecked, IsSent, IsUnsent, Reports, Sent, Tells, Told, findings_of, names_of, openings_of, told_of}
+use Rattle.checking.specs.Checks.{Begins, Checked, Checks, ChecksEach, ChecksNames, ChecksNext, ChecksOne, ChecksSome, IsBegun, IsChecked, IsSent, IsUnsent, Reports, Sent, Tells, Told, findings_of, names_of, openings_of, told_of}
 use Rattle.checking.specs.Counting.{counts_after, no_counts, with_finding}
 use Rattle.checking.specs.declared.begun.Begun.{Begun}
 use Rattle.checking.specs.declared.counts.Counts.{Counts}
@@ -140,10 +141,10 @@ module _ {I O : Type 0} (remaining : I → Option (List ℕ)) (contents : O → 
 
   -- the record couldn't be begun
   pub begin_failed : (old new : Option (List (Opening I O))) (name : RecordName) (counts : Counts)
-      (before after : Option (List Told)) (fault : RunFault) (result : Result Counts RunFault) → result ≡ Err fault
-      → Opens old new (λ opened. IsUnsent opened fault)
+      (before after : Option (List Told)) (fault given : RunFault) (result : Result Counts RunFault) → result ≡ Err given
+      → given ≡ fault → Opens old new (λ opened. IsUnsent opened fault)
       → Opens old new (λ opened. ChecksOne remaining contents base book name counts opened before after result)
-  begin_failed old new name counts before after fault result is opens = (opens.0, opens.1, rw is (record {
+  begin_failed old new name counts before after fault given result is same opens = (opens.0, opens.1, rw (is, same) (record {
     sent = [];
     rest = name ∷ [];
     last = opens.0;
@@ -184,11 +185,29 @@ module _ {I O : Type 0} (remaining : I → Option (List ℕ)) (contents : O → 
 
   -- the same, and that one ended the run
   pub ends_here : (old between new : Option (List (Opening I O))) (names : List RecordName) (i : ℕ) (d : RecordName)
-      (before told : Option (List Told)) (counts : Counts) (fault : RunFault) → i < length names
+      (before told after : Option (List Told)) (counts : Counts) (fault given : RunFault)
+      (result : Result Counts RunFault) → i < length names → result ≡ Err given → given ≡ fault
       → Opens old between (λ opened. ChecksEach remaining contents base book (take i names) opened before told counts)
       → Opens between new (λ opened. ChecksSome remaining contents base book (get_or names i d ∷ []) opened fault)
-      → Opens old new (λ opened. ChecksSome remaining contents base book names opened fault)
-  ends_here old between new names i d before told counts fault h all some =
-      (all.0 ++ some.0, adds_more old between new all.0 some.0 all.1 some.1,
-      subst (λ ns. ChecksSome remaining contents base book ns (all.0 ++ some.0) fault) (sym (split_at names i d h))
-      (ended_at (take i names) (get_or names i d) (drop (i + 1) names) all.0 some.0 before told counts fault all.2 some.2))
+      → Opens old new (λ opened. ChecksNames remaining contents base book names opened before after result)
+  ends_here old between new names i d before told after counts fault given result h is same all some =
+      let ended : ChecksSome remaining contents base book (take i names ++ get_or names i d ∷ drop (i + 1) names)
+          (all.0 ++ some.0) fault = ended_at (take i names) (get_or names i d) (drop (i + 1) names) all.0 some.0 before
+          told counts fault all.2 some.2 in
+      (all.0 ++ some.0, adds_more old between new all.0 some.0 all.1 some.1, rw (is, same) (
+      subst (λ ns. ChecksSome remaining contents base book ns (all.0 ++ some.0) fault) (sym (split_at names i d h)) ended))
+
+  -- every record was checked
+  pub ends_whole : (old new : Option (List (Opening I O))) (names : List RecordName) (i : ℕ)
+      (before after : Option (List Told)) (counts : Counts) → length names ≤ i
+      → Opens old new (λ opened. ChecksEach remaining contents base book (take i names) opened before after counts)
+      → Opens old new (λ opened. ChecksEach remaining contents base book names opened before after counts)
+  ends_whole old new names i before after counts h all = (all.0, all.1,
+      subst (λ ns. ChecksEach remaining contents base book ns all.0 before after counts) (take_all i names h) all.2)
+
+  -- memory ran out before the first record
+  pub not_begun : (known : Option (List (Opening I O))) (books : BookMap) (before : Option (List Told))
+      (fault given : RunFault) (result : Result Counts RunFault) → result ≡ Err given → given ≡ fault → fault ≡ Memory
+      → Opens known known (λ opened. Checks remaining contents base books opened before before result)
+  not_begun known books before fault given result is same memory =
+      ([], adds_none known, inr (refl, rw (is, same, memory) refl))

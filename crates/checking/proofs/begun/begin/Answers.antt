@@ -7,7 +7,7 @@ use Rattle.checking.proofs.begun.begin.Goals as goal
 pub returns-in_err-look : goal.returns-in_err-look
 returns-in_err-look g c =
     let p = err_from_is_err_and c.from_residual.result c.from_residual.ensures.1 in
-    unsent g.D.Writer.Write.contents c.args.service.now (book_of c.args.connector.now.book) (g.D.Dial.opened c.args.dial.now)
+    unsent g.D.Reader.Read.remaining g.D.Writer.Write.contents c.args.service.now (book_of c.args.connector.now.book) (g.D.Dial.opened c.args.dial.now)
     c.args.name.now p.0 c.from_residual.result p.1 (p.2 ∙ c.in_err-look.ensures.fault)
 
 pub returns : goal.returns

@@ -8,8 +8,8 @@ returns-in_err-begun g c =
     let p = err_from_is_err_and c.from_residual.result c.from_residual.ensures.1 in
     begin_failed g.D.Reader.Read.remaining g.D.Writer.Write.contents c.args.service.now (book_of c.args.connector.now.book)
     (g.D.Dial.opened c.args.dial.now) (g.D.Dial.opened c.begin.new.dial) c.args.name.now c.args.counts
-    (g.T.TellFinding.told c.args.teller.now) (g.T.TellFinding.told c.args.teller.now) p.0 c.from_residual.result p.1
-    ?
+    (g.T.TellFinding.told c.args.teller.now) (g.T.TellFinding.told c.args.teller.now) c.in_err-begun.field-0.0 p.0
+    c.from_residual.result p.1 p.2 c.in_err-begun.ensures
 
 pub returns : goal.returns
 returns g c = reported g.D.Reader.Read.remaining g.D.Writer.Write.contents c.args.service.now (book_of c.args.connector.now.book)
