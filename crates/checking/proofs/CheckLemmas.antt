@@ -1,19 +1,20 @@
 -- Records that are checked one after another.
-use Rattle.std.proofs.Common.{◌≡◌, ◌⊎◌, ℕ, ◌+◌, ◌<◌, ◌≤◌, List, [], ◌∷◌, ◌++◌, Option, Some, None, Result, Ok, Err, map, length, get_or, take, drop, inl, inr, refl, sym, ap, subst, ◌∙◌, add-one, append_assoc, append-nil}
+use Rattle.std.proofs.Common.{◌≡◌, ◌⊎◌, ℕ, List, [], ◌∷◌, ◌++◌, Option, Some, None, Result, Ok, Err, map, drop, length, arith, inl, inr, refl, sym, ap, subst, ◌∙◌, append_assoc, append-nil}
 use Rattle.std.specs.List.{AllByRecursion, flat_map}
 use Rattle.std.proofs.lemmas.Grind.{flat_map-append}
-use Rattle.std.proofs.lemmas.List.{map-append, take-append-drop, take_all}
-use Rattle.std.proofs.Math.Seq.{drop-cons, take-suc}
+use Rattle.std.proofs.lemmas.List.{map-append}
 use Rattle.scim_key.specs.declared.records.RecordName.{RecordName}
 use Rattle.connector_core.specs.Book.{Book}
 use Rattle.connector_core.specs.Maps.{BookMap}
 use Rattle.provisioning.specs.Lists.{Adds}
 use Rattle.provisioning.specs.Openings.{Opening, Opens}
+use Rattle.provisioning.specs.Runs.{IsUntold}
 use Rattle.provisioning.specs.declared.faults.RunFault.{RunFault}
 use Rattle.provisioning.specs.declared.faults.RunFault.TheVariants.{Memory}
-use Rattle.checking.specs.Checks.{Begins, Checked, Checks, ChecksEach, ChecksNames, ChecksNext, ChecksOne, ChecksSome, IsBegun, IsChecked, IsSent, IsUnsent, Reports, Sent, Tells, Told, findings_of, names_of, openings_of, told_of}
+use Rattle.checking.specs.Checks.{Begins, Checked, Checks, ChecksEach, ChecksNames, ChecksSome, IsBegun, IsChecked, IsSent, IsUnsent, MakesRoom, ReportsAll, ReportsOne, ReportsRest, Sends, Sent, Tells, Told, findings_of, names_of, openings_of, told_of}
 use Rattle.checking.specs.Counting.{counts_after, no_counts, with_finding}
 use Rattle.checking.specs.declared.begun.Begun.{Begun}
+use Rattle.checking.specs.declared.begun.Pending.{Pending}
 use Rattle.checking.specs.declared.counts.Counts.{Counts}
 use Rattle.checking.specs.declared.findings.Finding.{Finding}
 
@@ -36,13 +37,10 @@ all_joined : {X : Type 0} (P : X → Type 0) (xs ys : List X) → AllByRecursion
 all_joined P [] ys all more = more
 all_joined P (x ∷ xs) ys all more = (all.0, all_joined P xs ys all.1 more)
 
--- the element at a place, between those before it and those behind it
-split_at : {X : Type 0} (xs : List X) (i : ℕ) (d : X) → i < length xs
-    → xs ≡ take i xs ++ get_or xs i d ∷ drop (i + 1) xs
-split_at xs i d h = sym (take-append-drop i xs) ∙ ap (λ l. take i xs ++ l) (rw (drop-cons xs i d h, add-one) refl)
-
-regrouped : {X : Type 0} (a b c d : List X) → a ++ ((b ++ c) ++ d) ≡ (a ++ b) ++ (c ++ d)
-regrouped a b c d = simp append_assoc
+-- a list from which the first can't be taken
+pub none_in : {X : Type 0} (xs : List X) → xs ≡ drop 1 xs → xs ≡ []
+none_in [] e = refl
+none_in (x ∷ xs) e = absurd (omega (arith, ap length e))
 
 -- ---- a record
 
@@ -58,6 +56,9 @@ counted_more counts [] finding = refl
 counted_more counts (f ∷ findings) finding = counted_more (with_finding counts f) findings finding
 
 -- ---- records
+
+abbrev pending_of : {I O : Type 0} → Sent I O → Pending I O
+pending_of s = record { name = s.name; begun = s.begun }
 
 abbrev sent_of : {I O : Type 0} → Checked I O → Sent I O
 sent_of c = record { name = c.name; opened = c.opened; begun = c.begun }
@@ -77,60 +78,167 @@ module _ {I O : Type 0} (remaining : I → Option (List ℕ)) (contents : O → 
   all_sent [] all = tt
   all_sent (c ∷ cs) all = (all.0.begins, all_sent cs all.1)
 
+  -- these records were checked, reported and counted, and then these were begun, which are under way
+  pub record UnderWay (names : List RecordName) (opened : List (Opening I O)) (before told : Option (List Told))
+      (counts : Counts) (queue : List (Pending I O)) : Type 0 where
+    pub checked : List (Checked I O)
+    pub sent : List (Sent I O)
+    pub names_are : names ≡ names_of checked ++ map (λ s. s.name) sent
+    pub opened_are : opened ≡ openings_of checked ++ flat_map (λ s. s.opened) sent
+    pub each : AllByRecursion (IsChecked remaining contents base book) checked
+    pub begun : AllByRecursion (IsSent remaining contents base book) sent
+    pub reported : Tells before told (map told_of checked)
+    pub counts_are : counts ≡ counts_after no_counts (findings_of checked)
+    pub queue_is : queue ≡ map pending_of sent
+
   -- no record yet
-  pub none_checked : (told : Option (List Told)) → ChecksEach remaining contents base book [] [] told told no_counts
-  none_checked told = record {
+  pub none_yet : (told : Option (List Told)) → UnderWay [] [] told told no_counts []
+  none_yet told = record {
     checked = [];
+    sent = [];
     names_are = refl;
     opened_are = refl;
     each = tt;
-    told = adds_none told;
+    begun = tt;
+    reported = adds_none told;
     counts_are = refl;
+    queue_is = refl;
   }
 
-  -- one record more
-  pub one_more : (names : List RecordName) (name : RecordName) (opened first : List (Opening I O))
-      (before between after : Option (List Told)) (counts more : Counts)
-      → ChecksEach remaining contents base book names opened before between counts
-      → ChecksNext remaining contents base book name counts first between after more
-      → ChecksEach remaining contents base book (names ++ name ∷ []) (opened ++ first) before after more
-  one_more names name opened first before between after counts more all next =
-      let c : Checked I O = record { name = name; opened = first; begun = next.begun; finding = next.reports.finding } in record {
-        checked = all.checked ++ c ∷ [];
-        names_are = ap (λ l. l ++ name ∷ []) all.names_are ∙ sym (map-append (λ d. d.name) all.checked (c ∷ []));
+  -- one more was begun
+  pub sent_more : (names : List RecordName) (name : RecordName) (opened first : List (Opening I O))
+      (before told : Option (List Told)) (counts : Counts) (queue new : List (Pending I O)) (begun : Begun I O)
+      → UnderWay names opened before told counts queue → IsBegun contents base book name first begun
+      → new ≡ queue ++ record { name = name; begun = begun } ∷ []
+      → UnderWay (names ++ name ∷ []) (opened ++ first) before told counts new
+  sent_more names name opened first before told counts queue new begun all begins is =
+      let s : Sent I O = record { name = name; opened = first; begun = begun } in record {
+        checked = all.checked;
+        sent = all.sent ++ s ∷ [];
+        names_are = ap (λ l. l ++ name ∷ []) all.names_are
+            ∙ append_assoc (names_of all.checked) (map (λ t. t.name) all.sent) (name ∷ [])
+            ∙ ap (λ l. names_of all.checked ++ l) (sym (map-append (λ t. t.name) all.sent (s ∷ [])));
         opened_are = ap (λ l. l ++ first) all.opened_are
-            ∙ ap (λ l. openings_of all.checked ++ l) (sym (append-nil first))
-            ∙ sym (flat_map-append (λ d. d.opened) all.checked (c ∷ []));
-        each = all_joined _ all.checked (c ∷ []) all.each (record { begins = next.begins; found = next.reports.found }, tt);
-        told = subst (λ l. Tells before after l) (sym (map-append told_of all.checked (c ∷ [])))
-            (adds_more before between after (map told_of all.checked) (told_of c ∷ []) all.told next.reports.told);
-        counts_are = next.reports.counts_are ∙ ap (λ n. with_finding n next.reports.finding) all.counts_are
-            ∙ sym (counted_more no_counts (findings_of all.checked) next.reports.finding)
-            ∙ ap (λ l. counts_after no_counts l) (sym (map-append (λ d. d.finding) all.checked (c ∷ [])));
+            ∙ append_assoc (openings_of all.checked) (flat_map (λ t. t.opened) all.sent) first
+            ∙ ap (λ l. openings_of all.checked ++ (flat_map (λ t. t.opened) all.sent ++ l)) (sym (append-nil first))
+            ∙ ap (λ l. openings_of all.checked ++ l) (sym (flat_map-append (λ t. t.opened) all.sent (s ∷ [])));
+        each = all.each;
+        begun = all_joined _ all.sent (s ∷ []) all.begun (begins, tt);
+        reported = all.reported;
+        counts_are = all.counts_are;
+        queue_is = is ∙ ap (λ l. l ++ pending_of s ∷ []) all.queue_is
+            ∙ sym (map-append pending_of all.sent (s ∷ []));
       }
 
-  -- the next record ended the run
-  pub ended_at : (names : List RecordName) (name : RecordName) (others : List RecordName)
-      (opened first : List (Opening I O)) (before between : Option (List Told)) (counts : Counts) (fault : RunFault)
-      → ChecksEach remaining contents base book names opened before between counts
-      → ChecksSome remaining contents base book (name ∷ []) first fault
-      → ChecksSome remaining contents base book (names ++ name ∷ others) (opened ++ first) fault
-  ended_at names name others opened first before between counts fault all some = record {
-    sent = map sent_of all.checked ++ some.sent;
-    rest = some.rest ++ others;
-    last = some.last;
-    names_are = ap (λ l. l ++ name ∷ others) all.names_are
-        ∙ ap (λ l. names_of all.checked ++ (l ++ others)) some.names_are
-        ∙ regrouped (names_of all.checked) (map (λ s. s.name) some.sent) some.rest others
-        ∙ ap (λ l. l ++ (some.rest ++ others)) (sym (map-append (λ s. s.name) (map sent_of all.checked) some.sent
-        ∙ ap (λ l. l ++ map (λ s. s.name) some.sent) (sent_names all.checked)));
-    opened_are = ap (λ l. l ++ first) all.opened_are
-        ∙ ap (λ l. openings_of all.checked ++ l) some.opened_are
-        ∙ sym (append_assoc (openings_of all.checked) (flat_map (λ s. s.opened) some.sent) some.last)
-        ∙ ap (λ l. l ++ some.last) (sym (flat_map-append (λ s. s.opened) (map sent_of all.checked) some.sent
-        ∙ ap (λ l. l ++ flat_map (λ s. s.opened) some.sent) (sent_openings all.checked)));
-    each = all_joined _ (map sent_of all.checked) some.sent (all_sent all.checked all.each) some.each;
-    ends = some.ends;
+  -- the first of these was reported
+  first_of_sent : (names : List RecordName) (opened : List (Opening I O)) (before told after : Option (List Told))
+      (counts more : Counts) (cs : List (Checked I O)) (s : Sent I O) (ss : List (Sent I O))
+      → names ≡ names_of cs ++ s.name ∷ map (λ t. t.name) ss
+      → opened ≡ openings_of cs ++ (s.opened ++ flat_map (λ t. t.opened) ss)
+      → AllByRecursion (IsChecked remaining contents base book) cs
+      → AllByRecursion (IsSent remaining contents base book) (s ∷ ss)
+      → Tells before told (map told_of cs) → counts ≡ counts_after no_counts (findings_of cs)
+      → ReportsOne remaining s.name s.begun counts told after more
+      → UnderWay names opened before after more (map pending_of ss)
+  first_of_sent names opened before told after counts more cs s ss ns os each begun told_are counts_are reports =
+      let c : Checked I O = record { name = s.name; opened = s.opened; begun = s.begun; finding = reports.finding } in record {
+        checked = cs ++ c ∷ [];
+        sent = ss;
+        names_are = ns ∙ sym (append_assoc (names_of cs) (s.name ∷ []) (map (λ t. t.name) ss))
+            ∙ ap (λ l. l ++ map (λ t. t.name) ss) (sym (map-append (λ d. d.name) cs (c ∷ [])));
+        opened_are = os ∙ sym (append_assoc (openings_of cs) s.opened (flat_map (λ t. t.opened) ss))
+            ∙ ap (λ l. (openings_of cs ++ l) ++ flat_map (λ t. t.opened) ss) (sym (append-nil s.opened))
+            ∙ ap (λ l. l ++ flat_map (λ t. t.opened) ss) (sym (flat_map-append (λ d. d.opened) cs (c ∷ [])));
+        each = all_joined _ cs (c ∷ []) each (record { begins = begun.0; found = reports.found }, tt);
+        begun = begun.1;
+        reported = subst (λ l. Tells before after l) (sym (map-append told_of cs (c ∷ [])))
+            (adds_more before told after (map told_of cs) (told_of c ∷ []) told_are reports.told);
+        counts_are = reports.counts_are ∙ ap (λ n. with_finding n reports.finding) counts_are
+            ∙ sym (counted_more no_counts (findings_of cs) reports.finding)
+            ∙ ap (λ l. counts_after no_counts l) (sym (map-append (λ d. d.finding) cs (c ∷ [])));
+        queue_is = refl;
+      }
+
+  first_by : (names : List RecordName) (opened : List (Opening I O)) (before told after : Option (List Told))
+      (counts more : Counts) (cs : List (Checked I O)) (ss : List (Sent I O)) (p : Pending I O) (ps : List (Pending I O))
+      → names ≡ names_of cs ++ map (λ t. t.name) ss → opened ≡ openings_of cs ++ flat_map (λ t. t.opened) ss
+      → AllByRecursion (IsChecked remaining contents base book) cs
+      → AllByRecursion (IsSent remaining contents base book) ss
+      → Tells before told (map told_of cs) → counts ≡ counts_after no_counts (findings_of cs)
+      → p ∷ ps ≡ map pending_of ss → ReportsOne remaining p.name p.begun counts told after more
+      → UnderWay names opened before after more ps
+  first_by names opened before told after counts more cs [] p ps ns os each begun told_are counts_are is reports = cc
+  first_by names opened before told after counts more cs (s ∷ ss) p ps ns os each begun told_are counts_are is reports =
+      let here : p ≡ pending_of s = cc in
+      let rest : map pending_of ss ≡ ps = cc in
+      let said : ReportsOne remaining s.name s.begun counts told after more =
+          subst (λ q. ReportsOne remaining q.name q.begun counts told after more) here reports in
+      subst (λ q. UnderWay names opened before after more q) rest
+      (first_of_sent names opened before told after counts more cs s ss ns os each begun told_are counts_are said)
+
+  pub first_reported : (names : List RecordName) (opened : List (Opening I O)) (before told after : Option (List Told))
+      (counts more : Counts) (p : Pending I O) (ps : List (Pending I O))
+      → UnderWay names opened before told counts (p ∷ ps) → ReportsOne remaining p.name p.begun counts told after more
+      → UnderWay names opened before after more ps
+  first_reported names opened before told after counts more p ps all reports =
+      first_by names opened before told after counts more all.checked all.sent p ps all.names_are all.opened_are all.each
+      all.begun all.reported all.counts_are all.queue_is reports
+
+  -- there is room for one more
+  pub room_made : (names : List RecordName) (opened : List (Opening I O)) (before told after : Option (List Told))
+      (counts more : Counts) (old new : List (Pending I O)) → UnderWay names opened before told counts old
+      → MakesRoom remaining old new counts told after (Ok more) → UnderWay names opened before after more new
+  room_made names opened before told after counts more [] new all (inl made) = rw (made.0, made.1, made.2) all
+  room_made names opened before told after counts more (p ∷ ps) new all (inl made) =
+      rw made.0 (first_reported names opened before told after counts more p ps all made.1)
+  room_made names opened before told after counts more old new all (inr same) = rw (same.0, same.1, same.2) all
+
+  -- none is under way any more
+  none_left : (names : List RecordName) (opened : List (Opening I O)) (before told : Option (List Told))
+      (counts : Counts) (cs : List (Checked I O)) (ss : List (Sent I O))
+      → names ≡ names_of cs ++ map (λ t. t.name) ss → opened ≡ openings_of cs ++ flat_map (λ t. t.opened) ss
+      → AllByRecursion (IsChecked remaining contents base book) cs
+      → Tells before told (map told_of cs) → counts ≡ counts_after no_counts (findings_of cs)
+      → [] ≡ map pending_of ss → ChecksEach remaining contents base book names opened before told counts
+  none_left names opened before told counts cs [] ns os each told_are counts_are is = record {
+    checked = cs;
+    names_are = ns ∙ append-nil (names_of cs);
+    opened_are = os ∙ append-nil (openings_of cs);
+    each = each;
+    told = told_are;
+    counts_are = counts_are;
+  }
+  none_left names opened before told counts cs (s ∷ ss) ns os each told_are counts_are is = cc
+
+  -- all that were under way were reported
+  pub all_reported : (names : List RecordName) (opened : List (Opening I O)) (before told after : Option (List Told))
+      (counts more : Counts) (queue : List (Pending I O)) → UnderWay names opened before told counts queue
+      → ReportsAll remaining queue counts told after more
+      → ChecksEach remaining contents base book names opened before after more
+  all_reported names opened before told after counts more [] all reports = rw (reports.0, reports.1)
+      (none_left names opened before told counts all.checked all.sent all.names_are all.opened_are all.each all.reported
+      all.counts_are all.queue_is)
+  all_reported names opened before told after counts more (p ∷ ps) all reports =
+      all_reported names opened before reports.0 after reports.1 more ps
+      (first_reported names opened before told reports.0 counts reports.1 p ps all reports.2) reports.3
+
+  -- the run ended here
+  pub broken : (names others : List RecordName) (opened last : List (Opening I O)) (before told : Option (List Told))
+      (counts : Counts) (queue : List (Pending I O)) (fault : RunFault)
+      → UnderWay names opened before told counts queue → IsUnsent last fault ⊎ ((last ≡ []) × IsUntold fault)
+      → ChecksSome remaining contents base book (names ++ others) (opened ++ last) fault
+  broken names others opened last before told counts queue fault all ends = record {
+    sent = map sent_of all.checked ++ all.sent;
+    rest = others;
+    last = last;
+    names_are = ap (λ l. l ++ others) (all.names_are
+        ∙ ap (λ l. l ++ map (λ s. s.name) all.sent) (sym (sent_names all.checked))
+        ∙ sym (map-append (λ s. s.name) (map sent_of all.checked) all.sent));
+    opened_are = ap (λ l. l ++ last) (all.opened_are
+        ∙ ap (λ l. l ++ flat_map (λ s. s.opened) all.sent) (sym (sent_openings all.checked))
+        ∙ sym (flat_map-append (λ s. s.opened) (map sent_of all.checked) all.sent));
+    each = all_joined _ (map sent_of all.checked) all.sent (all_sent all.checked all.each) all.begun;
+    ends = ends;
   }
 
   -- memory ran out before the record was begun
@@ -139,71 +247,82 @@ module _ {I O : Type 0} (remaining : I → Option (List ℕ)) (contents : O → 
       → Opens opened opened (λ added. Begins contents base book name added result)
   unsent opened name fault result is memory = ([], adds_none opened, rw (is, memory) (inr (refl, refl)))
 
-  -- the record couldn't be begun
-  pub begin_failed : (old new : Option (List (Opening I O))) (name : RecordName) (counts : Counts)
-      (before after : Option (List Told)) (fault given : RunFault) (result : Result Counts RunFault) → result ≡ Err given
-      → given ≡ fault → Opens old new (λ opened. IsUnsent opened fault)
-      → Opens old new (λ opened. ChecksOne remaining contents base book name counts opened before after result)
-  begin_failed old new name counts before after fault given result is same opens = (opens.0, opens.1, rw (is, same) (record {
-    sent = [];
-    rest = name ∷ [];
-    last = opens.0;
-    names_are = refl;
-    opened_are = refl;
-    each = tt;
-    ends = inl opens.2;
-  }))
+  -- these records were begun, and those wait
+  abbrev pub HasBegun : (names waiting : List RecordName) (opened : List (Opening I O))
+      (before told : Option (List Told)) (counts : Counts) (queue : List (Pending I O)) → Type 0
+  HasBegun names waiting opened before told counts queue = (begun : List RecordName) × (names ≡ begun ++ waiting)
+      × UnderWay begun opened before told counts queue
 
-  -- the record was begun, and its finding was reported or not
-  pub reported : (old new : Option (List (Opening I O))) (name : RecordName) (counts : Counts) (begun : Begun I O)
-      (before after : Option (List Told)) (result : Result Counts RunFault)
-      → Opens old new (λ opened. IsBegun contents base book name opened begun)
-      → Reports remaining name begun counts before after result
-      → Opens old new (λ opened. ChecksOne remaining contents base book name counts opened before after result)
-  reported old new name counts begun before after (Ok more) opens reports =
-      (opens.0, opens.1, record { begun = begun; begins = opens.2; reports = reports })
-  reported old new name counts begun before after (Err fault) opens untold = (opens.0, opens.1, record {
-    sent = record { name = name; opened = opens.0; begun = begun } ∷ [];
-    rest = [];
-    last = [];
-    names_are = refl;
-    opened_are = sym (append-nil opens.0) ∙ ap (λ l. l ++ []) (sym (append-nil opens.0));
-    each = (opens.2, tt);
-    ends = inr (refl, untold);
-  })
+  -- none has begun
+  pub all_wait : (known : Option (List (Opening I O))) (names : List RecordName) (told : Option (List Told))
+      (counts : Counts) (queue : List (Pending I O)) → counts ≡ no_counts → queue ≡ []
+      → Opens known known (λ opened. HasBegun names names opened told told counts queue)
+  all_wait known names told counts queue zero none =
+      ([], adds_none known, ([], refl, rw (zero, none) (none_yet told)))
 
-  -- the records in front of a place were checked, and then the one at this place
-  pub goes_on : (old between new : Option (List (Opening I O))) (names : List RecordName) (i : ℕ) (d : RecordName)
-      (before told after : Option (List Told)) (counts more : Counts) → i < length names
-      → Opens old between (λ opened. ChecksEach remaining contents base book (take i names) opened before told counts)
-      → Opens between new (λ opened. ChecksNext remaining contents base book (get_or names i d) counts opened told after more)
-      → Opens old new (λ opened. ChecksEach remaining contents base book (take (i + 1) names) opened before after more)
-  goes_on old between new names i d before told after counts more h all next =
-      let longer : take (i + 1) names ≡ take i names ++ get_or names i d ∷ [] = rw add-one (take-suc names i d h) in
-      (all.0 ++ next.0, adds_more old between new all.0 next.0 all.1 next.1,
-      rw longer (one_more (take i names) (get_or names i d) all.0 next.0 before told after counts more all.2 next.2))
+  -- the first that waits has begun
+  pub goes_on : (old between new : Option (List (Opening I O))) (names waiting rest : List RecordName)
+      (name : RecordName) (before told after : Option (List Told)) (counts more : Counts)
+      (queue free later : List (Pending I O)) → waiting ≡ name ∷ rest
+      → Opens old between (λ opened. HasBegun names waiting opened before told counts queue)
+      → MakesRoom remaining queue free counts told after (Ok more)
+      → Opens between new (λ opened. Sends contents base book name opened free later (Ok tt))
+      → Opens old new (λ opened. HasBegun names rest opened before after more later)
+  goes_on old between new names waiting rest name before told after counts more queue free later is all room sent =
+      let held = all.2 in
+      let now = room_made held.0 all.0 before told after counts more queue free held.2 room in
+      (all.0 ++ sent.0, adds_more old between new all.0 sent.0 all.1 sent.1, (
+        held.0 ++ name ∷ [],
+        held.1 ∙ ap (λ l. held.0 ++ l) is ∙ sym (append_assoc held.0 (name ∷ []) rest),
+        sent_more held.0 name all.0 sent.0 before after more free later sent.2.0 now sent.2.1 sent.2.2,
+      ))
 
-  -- the same, and that one ended the run
-  pub ends_here : (old between new : Option (List (Opening I O))) (names : List RecordName) (i : ℕ) (d : RecordName)
-      (before told after : Option (List Told)) (counts : Counts) (fault given : RunFault)
-      (result : Result Counts RunFault) → i < length names → result ≡ Err given → given ≡ fault
-      → Opens old between (λ opened. ChecksEach remaining contents base book (take i names) opened before told counts)
-      → Opens between new (λ opened. ChecksSome remaining contents base book (get_or names i d ∷ []) opened fault)
+  -- a finding couldn't be reported
+  pub ends_untold : (old new : Option (List (Opening I O))) (names waiting : List RecordName)
+      (before told after : Option (List Told)) (counts : Counts) (queue : List (Pending I O)) (fault given : RunFault)
+      (result : Result Counts RunFault) → result ≡ Err given → given ≡ fault → IsUntold fault
+      → Opens old new (λ opened. HasBegun names waiting opened before told counts queue)
       → Opens old new (λ opened. ChecksNames remaining contents base book names opened before after result)
-  ends_here old between new names i d before told after counts fault given result h is same all some =
-      let ended : ChecksSome remaining contents base book (take i names ++ get_or names i d ∷ drop (i + 1) names)
-          (all.0 ++ some.0) fault = ended_at (take i names) (get_or names i d) (drop (i + 1) names) all.0 some.0 before
-          told counts fault all.2 some.2 in
-      (all.0 ++ some.0, adds_more old between new all.0 some.0 all.1 some.1, rw (is, same) (
-      subst (λ ns. ChecksSome remaining contents base book ns (all.0 ++ some.0) fault) (sym (split_at names i d h)) ended))
+  ends_untold old new names waiting before told after counts queue fault given result is same untold all =
+      let held = all.2 in
+      let ended : ChecksSome remaining contents base book (held.0 ++ waiting) (all.0 ++ []) fault =
+          broken held.0 waiting all.0 [] before told counts queue fault held.2 (inr (refl, untold)) in
+      let whole : ChecksSome remaining contents base book (held.0 ++ waiting) all.0 fault =
+          subst (λ os. ChecksSome remaining contents base book (held.0 ++ waiting) os fault) (append-nil all.0) ended in
+      (all.0, all.1, rw (is, same)
+      (subst (λ ns. ChecksSome remaining contents base book ns all.0 fault) (sym held.1) whole))
 
-  -- every record was checked
-  pub ends_whole : (old new : Option (List (Opening I O))) (names : List RecordName) (i : ℕ)
-      (before after : Option (List Told)) (counts : Counts) → length names ≤ i
-      → Opens old new (λ opened. ChecksEach remaining contents base book (take i names) opened before after counts)
-      → Opens old new (λ opened. ChecksEach remaining contents base book names opened before after counts)
-  ends_whole old new names i before after counts h all = (all.0, all.1,
-      subst (λ ns. ChecksEach remaining contents base book ns all.0 before after counts) (take_all i names h) all.2)
+  -- the first that waits couldn't be begun
+  pub ends_unsent : (old between new : Option (List (Opening I O))) (names waiting : List RecordName)
+      (before told late after : Option (List Told)) (counts more : Counts) (queue free : List (Pending I O))
+      (fault given : RunFault) (result : Result Counts RunFault) → result ≡ Err given → given ≡ fault
+      → Opens old between (λ opened. HasBegun names waiting opened before told counts queue)
+      → MakesRoom remaining queue free counts told late (Ok more)
+      → Opens between new (λ opened. IsUnsent opened fault)
+      → Opens old new (λ opened. ChecksNames remaining contents base book names opened before after result)
+  ends_unsent old between new names waiting before told late after counts more queue free fault given result is same all
+      room sent =
+      let held = all.2 in
+      let now = room_made held.0 all.0 before told late counts more queue free held.2 room in
+      let ended : ChecksSome remaining contents base book (held.0 ++ waiting) (all.0 ++ sent.0) fault =
+          broken held.0 waiting all.0 sent.0 before late more free fault now (inl sent.2) in
+      (all.0 ++ sent.0, adds_more old between new all.0 sent.0 all.1 sent.1, rw (is, same)
+      (subst (λ ns. ChecksSome remaining contents base book ns (all.0 ++ sent.0) fault) (sym held.1) ended))
+
+  -- none waits any more
+  pub finishes : (old new : Option (List (Opening I O))) (names waiting : List RecordName)
+      (before told after : Option (List Told)) (counts : Counts) (queue : List (Pending I O))
+      (result : Result Counts RunFault) → waiting ≡ []
+      → Opens old new (λ opened. HasBegun names waiting opened before told counts queue)
+      → ReportsRest remaining queue counts told after result
+      → Opens old new (λ opened. ChecksNames remaining contents base book names opened before after result)
+  finishes old new names waiting before told after counts queue (Ok more) none all reports =
+      let held = all.2 in
+      let begun : held.0 ≡ names = sym (held.1 ∙ ap (λ l. held.0 ++ l) none ∙ append-nil held.0) in
+      (all.0, all.1, subst (λ ns. ChecksEach remaining contents base book ns all.0 before after more) begun
+      (all_reported held.0 all.0 before told after counts more queue held.2 reports))
+  finishes old new names waiting before told after counts queue (Err fault) none all untold =
+      ends_untold old new names waiting before told after counts queue fault fault (Err fault) refl refl untold all
 
   -- memory ran out before the first record
   pub not_begun : (known : Option (List (Opening I O))) (books : BookMap) (before : Option (List Told))

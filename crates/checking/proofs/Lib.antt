@@ -1,3 +1,3 @@
-mod CheckLemmas
+pub mod CheckLemmas
 mod LineLemmas
 pub mod StepLemmas

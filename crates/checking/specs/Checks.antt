@@ -23,6 +23,7 @@ use Rattle.checking.specs.Counting.{counts_after, no_counts, with_finding}
 use Rattle.checking.specs.Findings.{finding_of, looking}
 use Rattle.checking.specs.declared.begun.Begun.{Begun}
 use Rattle.checking.specs.declared.begun.Begun.TheVariants.{Asked, Hindered}
+use Rattle.checking.specs.declared.begun.Pending.{Pending}
 use Rattle.checking.specs.declared.counts.Counts.{Counts}
 use Rattle.checking.specs.declared.findings.Finding.{Finding}
 use Rattle.checking.specs.declared.findings.Finding.TheVariants.{Unchecked}
@@ -96,6 +97,42 @@ abbrev pub Reports : {I O : Type 0} → (I → Option (List ℕ)) → RecordName
 Reports remaining name begun counts before after (Ok more) = ReportsOne remaining name begun counts before after more
 Reports remaining name begun counts before after (Err fault) = IsUntold fault
 
+-- ---- records that are under way
+
+-- the first was reported, if there is one
+abbrev pub ReportsFirst : {I O : Type 0} → (I → Option (List ℕ)) → (old new : List (Pending I O)) → Counts
+    → (before after : Option (List Told)) → (more : Counts) → Type 0
+ReportsFirst remaining [] new counts before after more = (new ≡ []) × (after ≡ before) × (more ≡ counts)
+ReportsFirst remaining (p ∷ ps) new counts before after more =
+    (new ≡ ps) × ReportsOne remaining p.name p.begun counts before after more
+
+-- the first was reported, or none was; or a line couldn't be written, or memory ran out
+abbrev pub MakesRoom : {I O : Type 0} → (I → Option (List ℕ)) → (old new : List (Pending I O)) → Counts
+    → (before after : Option (List Told)) → Result Counts RunFault → Type 0
+MakesRoom remaining old new counts before after (Ok more) =
+    ReportsFirst remaining old new counts before after more ⊎ ((new ≡ old) × (after ≡ before) × (more ≡ counts))
+MakesRoom remaining old new counts before after (Err fault) = IsUntold fault
+
+-- all were reported, in their order
+abbrev pub ReportsAll : {I O : Type 0} → (I → Option (List ℕ)) → List (Pending I O) → Counts
+    → (before after : Option (List Told)) → (more : Counts) → Type 0
+ReportsAll remaining [] counts before after more = (after ≡ before) × (more ≡ counts)
+ReportsAll remaining (p ∷ ps) counts before after more = (told : Option (List Told)) × (next : Counts)
+    × ReportsOne remaining p.name p.begun counts before told next × ReportsAll remaining ps next told after more
+
+-- that; or a line couldn't be written, or memory ran out
+abbrev pub ReportsRest : {I O : Type 0} → (I → Option (List ℕ)) → List (Pending I O) → Counts
+    → (before after : Option (List Told)) → Result Counts RunFault → Type 0
+ReportsRest remaining ps counts before after (Ok more) = ReportsAll remaining ps counts before after more
+ReportsRest remaining ps counts before after (Err fault) = IsUntold fault
+
+-- a record was begun, and is the last of those under way; or nothing was sent
+abbrev pub Sends : {I O : Type 0} → (O → Option (List ℕ)) → List ℕ → Book → RecordName
+    → (opened : List (Opening I O)) → (old new : List (Pending I O)) → Result (Unit {0}) RunFault → Type 0
+Sends {I} {O} contents base book name opened old new (Ok sent) = (begun : Begun I O)
+    × IsBegun contents base book name opened begun × (new ≡ old ++ record { name = name; begun = begun } ∷ [])
+Sends contents base book name opened old new (Err fault) = IsUnsent opened fault
+
 -- ---- all records
 
 -- a record, its stream if it was asked about, and its finding
@@ -158,18 +195,6 @@ module _ {I O : Type 0} (remaining : I → Option (List ℕ)) (contents : O → 
       → Result Counts RunFault → Type 0
   ChecksNames names opened before after (Ok counts) = ChecksEach names opened before after counts
   ChecksNames names opened before after (Err fault) = ChecksSome names opened fault
-
-  -- this record was checked, reported, and counted after others
-  pub record ChecksNext (name : RecordName) (counts : Counts) (opened : List (Opening I O))
-      (before after : Option (List Told)) (more : Counts) : Type 0 where
-    pub begun : Begun I O
-    pub begins : IsBegun contents base book name opened begun
-    pub reports : ReportsOne remaining name begun counts before after more
-
-  abbrev pub ChecksOne : RecordName → (counts : Counts) → (opened : List (Opening I O))
-      → (before after : Option (List Told)) → Result Counts RunFault → Type 0
-  ChecksOne name counts opened before after (Ok more) = ChecksNext name counts opened before after more
-  ChecksOne name counts opened before after (Err fault) = ChecksSome (name ∷ []) opened fault
 
 -- The records of the connector in the order of a push; or memory ran out before the first of them
 abbrev pub Checks : {I O : Type 0} → (I → Option (List ℕ)) → (O → Option (List ℕ)) → List ℕ → BookMap

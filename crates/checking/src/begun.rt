@@ -24,6 +24,13 @@ pub enum Begun<R: Drop, W: Drop> {
     Hindered(Hindrance),
 }
 
+/// A record that isn't reported yet.
+#[derive(Drop)]
+pub struct Pending<R: Drop, W: Drop> {
+    pub name: RecordName,
+    pub begun: Begun<R, W>,
+}
+
 /// Sends the search for a record on a new stream, if it can be asked about.
 pub(crate) fn begin<J: Journal, D: Dial>(
     alloc: Global,

@@ -15,7 +15,7 @@ mod running;
 mod telling;
 
 pub use aspects::{ASPECTS, Aspect, Beside};
-pub use begun::Begun;
+pub use begun::{Begun, Pending};
 pub use counts::Counts;
 pub use findings::Finding;
 pub use laws::in_step_means;

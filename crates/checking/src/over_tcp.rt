@@ -22,6 +22,7 @@ pub fn check<'a, N: Net + Clock, J: Journal, W: Write>(
     service: &ScimService,
     connector: &Connector<J>,
     is_quiet: bool,
+    streams: u32,
     address: &str,
     out: &mut W,
 ) -> Result<Counts, RunFault>
@@ -30,7 +31,7 @@ pub fn check<'a, N: Net + Clock, J: Journal, W: Write>(
 {
     let mut dial = Remote::new(alloc, rt, address);
     let mut lines = FindingLines { out, is_quiet };
-    let counts = check_all(alloc, service, connector, &mut dial, &mut lines);
+    let counts = check_all(alloc, service, connector, &mut dial, &mut lines, streams);
     concluded(counts, lines)
 }
 

@@ -3,9 +3,9 @@ ghost use Rattle.std.specs.Prelude.{◌≡◌, ◌∷◌, [], IfErr, OnOk};
 ghost use Rattle.connector_core.specs.Maps.{book_of};
 ghost use Rattle.provisioning.specs.Openings.{Opens};
 ghost use Rattle.provisioning.specs.Runs.{IsUntold};
-ghost use Rattle.checking.specs.Checks.{Checks, ChecksNames, ChecksOne, Reports, Tells, counted};
+ghost use Rattle.checking.specs.Checks.{Checks, ChecksNames, MakesRoom, Reports, ReportsRest, Sends, Tells, counted};
 
-use crate::begun::{Begun, begin, finish};
+use crate::begun::{Pending, begin, finish};
 use crate::counts::Counts;
 use crate::findings::Finding;
 use crate::telling::TellFinding;
@@ -15,61 +15,106 @@ use provisioning::{Dial, RunFault, names_in_order, unwritten};
 use scim_client::ScimService;
 use scim_key::RecordName;
 use std::alloc::Global;
+use std::collections::VecDeque;
 
 /// Asks about every record by one search, on a stream of its own, users by key and then groups by key, and reports the
-/// finding of each. It changes nothing. The run ends early if a stream can't be opened, a finding can't be reported, or
-/// memory runs out.
+/// finding of each in this order. Up to `streams` are under way at once. It changes nothing. The run ends early if a
+/// stream can't be opened, a finding can't be reported, or memory runs out.
 pub fn check_all<J: Journal, D: Dial, T: TellFinding>(
     alloc: Global,
     service: &ScimService,
     connector: &Connector<J>,
     dial: &mut D,
     teller: &mut T,
+    streams: u32,
 ) -> Result<Counts, RunFault>
     ensures { Opens (D.opened dial.old) (D.opened dial.new) (λ opened. Checks
         D.Reader.remaining D.Writer.contents service.now connector.now.book opened
         (T.told teller.old) (T.told teller.new) result) }
 {
     let names = names_in_order(connector)?;
-    check_names(alloc, service, connector, dial, teller, names.as_slice())
+    let waiting = VecDeque::from_vec(names);
+    check_names(alloc, service, connector, dial, teller, waiting, streams as usize)
 }
 
-/// Checks these records, one after another.
+/// Checks these records.
 fn check_names<J: Journal, D: Dial, T: TellFinding>(
     alloc: Global,
     service: &ScimService,
     connector: &Connector<J>,
     dial: &mut D,
     teller: &mut T,
-    names: &[RecordName],
+    mut waiting: VecDeque<RecordName>,
+    streams: usize,
 ) -> Result<Counts, RunFault>
     ensures { Opens (D.opened dial.old) (D.opened dial.new) (λ opened. ChecksNames
-        D.Reader.remaining D.Writer.contents service.now (book_of connector.now.book) names.now opened
+        D.Reader.remaining D.Writer.contents service.now (book_of connector.now.book) waiting.items opened
         (T.told teller.old) (T.told teller.new) result) }
 {
     let mut counts = Counts::new();
-    for name in names {
-        counts = check_one(alloc, service, connector, dial, teller, name, counts)?;
+    let mut under_way = VecDeque::new(alloc);
+    while let Some(name) = waiting.pop_front() {
+        counts = make_room(alloc, dial, teller, &mut under_way, streams, counts)?;
+        send(alloc, service, connector, dial, &mut under_way, name)?;
     }
-    Ok(counts)
+    report_rest(alloc, dial, teller, under_way, counts)
 }
 
-/// Checks a record, after others with these counts.
-fn check_one<J: Journal, D: Dial, T: TellFinding>(
+/// Reports the first record, if as many are under way as may be.
+fn make_room<D: Dial, T: TellFinding>(
+    alloc: Global,
+    dial: &D,
+    teller: &mut T,
+    under_way: &mut VecDeque<Pending<D::Reader, D::Writer>>,
+    streams: usize,
+    counts: Counts,
+) -> Result<Counts, RunFault>
+    ensures { MakesRoom D.Reader.remaining under_way.old.items under_way.new.items counts
+        (T.told teller.old) (T.told teller.new) result }
+{
+    if under_way.len() < streams {
+        return Ok(counts);
+    }
+    match under_way.pop_front() {
+        Some(first) => report(alloc, dial, teller, first, counts),
+        None => Ok(counts),
+    }
+}
+
+/// Sends the search for a record, which is then under way behind the others.
+fn send<J: Journal, D: Dial>(
     alloc: Global,
     service: &ScimService,
     connector: &Connector<J>,
     dial: &mut D,
-    teller: &mut T,
-    name: &RecordName,
-    counts: Counts,
-) -> Result<Counts, RunFault>
-    ensures { Opens (D.opened dial.old) (D.opened dial.new) (λ opened. ChecksOne
-        D.Reader.remaining D.Writer.contents service.now (book_of connector.now.book) name.now counts opened
-        (T.told teller.old) (T.told teller.new) result) }
+    under_way: &mut VecDeque<Pending<D::Reader, D::Writer>>,
+    name: RecordName,
+) -> Result<(), RunFault>
+    ensures { Opens (D.opened dial.old) (D.opened dial.new) (λ opened. Sends
+        D.Writer.contents service.now (book_of connector.now.book) name opened
+        under_way.old.items under_way.new.items result) }
 {
-    let begun = begin(alloc, service, connector, dial, name)?;
-    report(alloc, dial, teller, name, begun, counts)
+    under_way.reserve(1)?;
+    let begun = begin(alloc, service, connector, dial, &name)?;
+    under_way.push_back_reserved(Pending { name, begun });
+    Ok(())
+}
+
+/// Reports the records that are under way.
+fn report_rest<D: Dial, T: TellFinding>(
+    alloc: Global,
+    dial: &D,
+    teller: &mut T,
+    mut under_way: VecDeque<Pending<D::Reader, D::Writer>>,
+    mut counts: Counts,
+) -> Result<Counts, RunFault>
+    ensures { ReportsRest D.Reader.remaining under_way.items counts (T.told teller.old)
+        (T.told teller.new) result }
+{
+    while let Some(first) = under_way.pop_front() {
+        counts = report(alloc, dial, teller, first, counts)?;
+    }
+    Ok(counts)
 }
 
 /// Reads the answer about a record, reports the finding, and counts it.
@@ -77,15 +122,15 @@ fn report<D: Dial, T: TellFinding>(
     alloc: Global,
     dial: &D,
     teller: &mut T,
-    name: &RecordName,
-    begun: Begun<D::Reader, D::Writer>,
+    pending: Pending<D::Reader, D::Writer>,
     counts: Counts,
 ) -> Result<Counts, RunFault>
-    ensures { Reports D.Reader.remaining name.now begun counts (T.told teller.old)
+    ensures { Reports D.Reader.remaining pending.name pending.begun counts (T.told teller.old)
         (T.told teller.new) result }
 {
+    let Pending { name, begun } = pending;
     let finding = finish(alloc, dial, begun)?;
-    let told = tell(teller, name, &finding);
+    let told = tell(teller, &name, &finding);
     counted(counts, &finding, told)
 }
 

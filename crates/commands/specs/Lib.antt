@@ -1,6 +1,5 @@
 pub mod Addresses
 pub mod Causes
-pub mod Comparing
 pub mod Connections
 pub mod Statuses
 pub mod Images
@@ -18,3 +17,4 @@ pub mod Manners
 pub mod Layouts
 pub mod Limits
 pub mod Planning
+pub mod Comparing

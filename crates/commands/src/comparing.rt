@@ -5,7 +5,7 @@ ghost use Rattle.commands.specs.Comparing.{EndsChecking, IsCheckedAt, IsCopyOf};
 ghost use Rattle.commands.specs.Simulating.{is_set};
 
 use crate::endings::checked_status;
-use crate::manners::is_quiet;
+use crate::manners::{is_quiet, streams};
 use crate::output::{NotedWriter, standard_output};
 use crate::planning::look_into;
 use crate::status::{CommandFault, Part, Status};
@@ -38,7 +38,8 @@ pub fn check<'a, R: Runtime + Net + AllocGlobal, J: EntryStorage>(
     let service = ScimService::new(base(rt.alloc(), words)?);
     let connector = copy_of(rt.alloc(), storage)?;
     let mut out = standard_output(rt)?;
-    check_to(rt, &connector, &service, is_quiet(words), to, &mut out)
+    let manner = (is_quiet(words), streams(words)?);
+    check_to(rt, &connector, &service, manner, to, &mut out)
 }
 
 /// The connector over a copy of the entries of a journal, which is closed again.
@@ -60,7 +61,7 @@ fn check_to<'a, R: Runtime + Net + AllocGlobal, W: Write + Drop>(
     rt: &'a R,
     connector: &Connector<MemoryJournal>,
     service: &ScimService,
-    is_quiet: bool,
+    (is_quiet, streams): (bool, u32),
     to: &str,
     out: &mut NotedWriter<W>,
 ) -> Result<Status, CommandFault>
@@ -68,6 +69,15 @@ fn check_to<'a, R: Runtime + Net + AllocGlobal, W: Write + Drop>(
         ⟦<TimedHandle<'a, R::Stream, R> as Write>⟧.contents service.now connector.now.book
         out.new.last result }
 {
-    let checked = checking::check(rt, rt.alloc(), service, connector, is_quiet, to, out);
+    let checked = checking::check(
+        rt,
+        rt.alloc(),
+        service,
+        connector,
+        is_quiet,
+        streams,
+        to,
+        out,
+    );
     out.concluded(checked_status(checked))
 }

@@ -88,7 +88,7 @@ fn most_leavers(words: &ArgMatches<'_>) -> Result<Option<u32>, CommandFault>
 }
 
 /// For how many records exchanges may be under way at once: one, unless the arguments say otherwise.
-fn streams(words: &ArgMatches<'_>) -> Result<u32, CommandFault>
+pub(crate) fn streams(words: &ArgMatches<'_>) -> Result<u32, CommandFault>
     ensures { GivesStreams (first_value (found_of words.now) (codes "streams"))
         (one_text (found_of words.now) (codes "streams")) result }
 {

@@ -127,6 +127,13 @@ const QUIET: OptionText = OptionText {
     help: Help::Text("prints only records that aren't confirmed, and counts"),
 };
 
+const STREAMS: OptionText = OptionText {
+    name: "streams",
+    value: Value::Count,
+    rule: Rule::Without("plan"),
+    help: Help::Text("how many records are under way at once, one by default"),
+};
+
 static COMMANDS: &[CommandText] = &[
     CommandText {
         name: "answer",
@@ -147,6 +154,10 @@ static COMMANDS: &[CommandText] = &[
                 help: Help::Text("prints only accounts that are active and shouldn't be, or the other way round"),
                 rule: Rule::Optional,
                 ..QUIET
+            },
+            OptionText {
+                rule: Rule::Optional,
+                ..STREAMS
             },
         ],
     },
@@ -213,12 +224,7 @@ static COMMANDS: &[CommandText] = &[
                 help: Help::Text("does nothing if more users than this would be switched off"),
             },
             QUIET,
-            OptionText {
-                name: "streams",
-                value: Value::Count,
-                rule: Rule::Without("plan"),
-                help: Help::Text("how many records are under way at once, one by default"),
-            },
+            STREAMS,
             OptionText {
                 name: "leavers-first",
                 value: Value::Nothing,
