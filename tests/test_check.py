@@ -1,9 +1,11 @@
 """`check`: what a provider has, beside what the journal wants. It changes nothing."""
+import concurrent.futures
 import json
+import socket
 
 from databases import OLDER_FORMS, group_entry, make_journal, make_store, user_entry
-from peers import NO_HITS, Peer, answer, asked, hits, user
-from support import NOWHERE, contents, full_disk, resource_id, scimlink
+from peers import NO_HITS, Peer, answer, asked, hits, read_request, user
+from support import NOWHERE, PATIENCE, contents, full_disk, resource_id, scimlink
 from test_push import PushTest
 
 OLDER = "journal fault: it is of an older format, and this command changes nothing"
@@ -131,6 +133,41 @@ class StoreTest(CheckTest):
         self.checks(2, line, counts(2, 2), changed=changed, options=["--quiet"])
 
 
+class SlowPeer:
+    """A provider that answers its first requests when this many have come, and each later one as it comes."""
+
+    def __init__(self, together, said, requests):
+        self.together, self.said, self.requests, self.most = together, said, requests, 0
+        self.listener = socket.create_server(("127.0.0.1", 0))
+        self.listener.settimeout(PATIENCE)
+        self.address = f"127.0.0.1:{self.listener.getsockname()[1]}"
+        self.pool = concurrent.futures.ThreadPoolExecutor(1)
+
+    def __enter__(self):
+        self.conversation = self.pool.submit(self.converse)
+        return self
+
+    def __exit__(self, *_):
+        with self.pool, self.listener:
+            self.conversation.result(PATIENCE)
+
+    def converse(self):
+        waiting = []
+        for _ in range(self.requests):
+            stream, _ = self.listener.accept()
+            read_request(stream)
+            waiting.append(stream)
+            self.most = max(self.most, len(waiting))
+            if self.most == self.together:
+                self.answer(waiting)
+        self.answer(waiting)
+
+    def answer(self, waiting):
+        while waiting:
+            with waiting.pop(0) as stream:
+                stream.sendall(self.said)
+
+
 class PeerTest(CheckTest):
     def test_only_searches(self):
         users = [user_entry("ann", revision=2), user_entry("bob", active=0, revision=3, confirmed=1, id="7")]
@@ -157,6 +194,15 @@ class PeerTest(CheckTest):
         make_journal(self.site.journal, [user_entry("ann")], [group_entry("crew", "ann")])
         lines = ["user ann: gone", "group crew: unchecked waits ann", counts(1, 1, 1)]
         self.assertEqual(self.meets([NO_HITS], *lines), [FIND_ANN])
+
+    def test_streams(self):
+        """Searches are sent before the first answer comes, as many as the option says, and lines keep their order."""
+        names = ["ann", "bob", "cid", "dee"]
+        make_journal(self.site.journal, [user_entry(name) for name in names])
+        lines = [*(f"user {name}: gone" for name in names), counts(4, 4)]
+        with SlowPeer(3, NO_HITS, len(names)) as peer:
+            self.assert_checks(peer.address, *lines, options=["--streams", "3"])
+        self.assertEqual(peer.most, 3)
 
     def test_no_record(self):
         make_journal(self.site.journal)
@@ -191,5 +237,7 @@ class FaultTest(CheckTest):
         for to in ("x", "localhost:0", ""):
             run = self.check(to)
             self.assert_prints(run, status=2, errors=["error: --to is HOST:PORT, such as localhost:8080"])
+        for count in ("0", "65"):
+            self.assert_prints(self.check(NOWHERE, "--streams", count), status=2, errors=["error: --streams is 1 to 64"])
         for words in (["--journal", "j"], ["--to", NOWHERE], ["--journal", "j", "--to", NOWHERE, "--plan"]):
             self.assertEqual(scimlink("check", *words).status, 2)

@@ -172,7 +172,7 @@ module _ {I O : Type 0} (remaining : I → Option (List ℕ)) (contents : O → 
       let here : p ≡ pending_of s = cc in
       let rest : map pending_of ss ≡ ps = cc in
       let said : ReportsOne remaining s.name s.begun counts told after more =
-          subst (λ q. ReportsOne remaining q.name q.begun counts told after more) here reports in
+      subst (λ q. ReportsOne remaining q.name q.begun counts told after more) here reports in
       subst (λ q. UnderWay names opened before after more q) rest
       (first_of_sent names opened before told after counts more cs s ss ns os each begun told_are counts_are said)
 
@@ -270,12 +270,15 @@ module _ {I O : Type 0} (remaining : I → Option (List ℕ)) (contents : O → 
       → Opens old new (λ opened. HasBegun names rest opened before after more later)
   goes_on old between new names waiting rest name before told after counts more queue free later is all room sent =
       let held = all.2 in
-      let now = room_made held.0 all.0 before told after counts more queue free held.2 room in
-      (all.0 ++ sent.0, adds_more old between new all.0 sent.0 all.1 sent.1, (
-        held.0 ++ name ∷ [],
-        held.1 ∙ ap (λ l. held.0 ++ l) is ∙ sym (append_assoc held.0 (name ∷ []) rest),
-        sent_more held.0 name all.0 sent.0 before after more free later sent.2.0 now sent.2.1 sent.2.2,
-      ))
+      let now = room_made held.0 all.0 before told after counts more queue free held.2 room in (
+        all.0 ++ sent.0,
+        adds_more old between new all.0 sent.0 all.1 sent.1,
+        (
+          held.0 ++ name ∷ [],
+          held.1 ∙ ap (λ l. held.0 ++ l) is ∙ sym (append_assoc held.0 (name ∷ []) rest),
+          sent_more held.0 name all.0 sent.0 before after more free later sent.2.0 now sent.2.1 sent.2.2,
+        ),
+      )
 
   -- a finding couldn't be reported
   pub ends_untold : (old new : Option (List (Opening I O))) (names waiting : List RecordName)
@@ -286,11 +289,14 @@ module _ {I O : Type 0} (remaining : I → Option (List ℕ)) (contents : O → 
   ends_untold old new names waiting before told after counts queue fault given result is same untold all =
       let held = all.2 in
       let ended : ChecksSome remaining contents base book (held.0 ++ waiting) (all.0 ++ []) fault =
-          broken held.0 waiting all.0 [] before told counts queue fault held.2 (inr (refl, untold)) in
+      broken held.0 waiting all.0 [] before told counts queue fault held.2 (inr (refl, untold)) in
       let whole : ChecksSome remaining contents base book (held.0 ++ waiting) all.0 fault =
-          subst (λ os. ChecksSome remaining contents base book (held.0 ++ waiting) os fault) (append-nil all.0) ended in
-      (all.0, all.1, rw (is, same)
-      (subst (λ ns. ChecksSome remaining contents base book ns all.0 fault) (sym held.1) whole))
+      subst (λ os. ChecksSome remaining contents base book (held.0 ++ waiting) os fault) (append-nil all.0) ended in (
+        all.0,
+        all.1,
+        rw (is, same)
+            (subst (λ ns. ChecksSome remaining contents base book ns all.0 fault) (sym held.1) whole),
+      )
 
   -- the first that waits couldn't be begun
   pub ends_unsent : (old between new : Option (List (Opening I O))) (names waiting : List RecordName)
@@ -305,9 +311,12 @@ module _ {I O : Type 0} (remaining : I → Option (List ℕ)) (contents : O → 
       let held = all.2 in
       let now = room_made held.0 all.0 before told late counts more queue free held.2 room in
       let ended : ChecksSome remaining contents base book (held.0 ++ waiting) (all.0 ++ sent.0) fault =
-          broken held.0 waiting all.0 sent.0 before late more free fault now (inl sent.2) in
-      (all.0 ++ sent.0, adds_more old between new all.0 sent.0 all.1 sent.1, rw (is, same)
-      (subst (λ ns. ChecksSome remaining contents base book ns (all.0 ++ sent.0) fault) (sym held.1) ended))
+      broken held.0 waiting all.0 sent.0 before late more free fault now (inl sent.2) in (
+        all.0 ++ sent.0,
+        adds_more old between new all.0 sent.0 all.1 sent.1,
+        rw (is, same)
+            (subst (λ ns. ChecksSome remaining contents base book ns (all.0 ++ sent.0) fault) (sym held.1) ended),
+      )
 
   -- none waits any more
   pub finishes : (old new : Option (List (Opening I O))) (names waiting : List RecordName)
@@ -318,9 +327,12 @@ module _ {I O : Type 0} (remaining : I → Option (List ℕ)) (contents : O → 
       → Opens old new (λ opened. ChecksNames remaining contents base book names opened before after result)
   finishes old new names waiting before told after counts queue (Ok more) none all reports =
       let held = all.2 in
-      let begun : held.0 ≡ names = sym (held.1 ∙ ap (λ l. held.0 ++ l) none ∙ append-nil held.0) in
-      (all.0, all.1, subst (λ ns. ChecksEach remaining contents base book ns all.0 before after more) begun
-      (all_reported held.0 all.0 before told after counts more queue held.2 reports))
+      let begun : held.0 ≡ names = sym (held.1 ∙ ap (λ l. held.0 ++ l) none ∙ append-nil held.0) in (
+        all.0,
+        all.1,
+        subst (λ ns. ChecksEach remaining contents base book ns all.0 before after more) begun
+            (all_reported held.0 all.0 before told after counts more queue held.2 reports),
+      )
   finishes old new names waiting before told after counts queue (Err fault) none all untold =
       ends_untold old new names waiting before told after counts queue fault fault (Err fault) refl refl untold all
 

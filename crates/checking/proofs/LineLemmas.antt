@@ -1,5 +1,5 @@
 -- The differences in some aspects, one after another.
-use Rattle.std.proofs.Common.{◌≡◌, ℕ, ◌+◌, ◌<◌, ◌≤◌, Bool, true, false, List, [], ◌∷◌, ◌++◌, length, get_or, drop, refl, sym, ap, ◌∙◌, add-one, append_assoc, arith}
+use Rattle.std.proofs.Common.{◌≡◌, ℕ, ◌+◌, ◌<◌, ◌≤◌, Bool, true, false, List, ◌++◌, length, get_or, drop, refl, ap, ◌∙◌, add-one, append_assoc}
 use Rattle.std.specs.Bool.{if◌then◌else◌}
 use Rattle.std.proofs.lemmas.List.{append-nil, drop_all}
 use Rattle.std.proofs.Math.Seq.{drop-cons}
@@ -23,7 +23,7 @@ pub agreed : (b : Beside) (first : Bool) (all written : List ℕ) (aspects : Lis
     → all ≡ written ++ differences_text b first (drop (i + 1) aspects)
 agreed b first all written aspects i d h e same =
     let next : differences_text b first (drop i aspects) ≡ differences_text b first (drop (i + 1) aspects) =
-        step b first aspects i d h ∙ rw same refl in
+    step b first aspects i d h ∙ rw same refl in
     e ∙ ap (λ l. written ++ l) next
 
 -- it differs: that is printed
@@ -36,9 +36,9 @@ differed b first all written aspects i d h e other =
     let rest : List ℕ = differences_text b false (drop (i + 1) aspects) in
     let one : List ℕ = difference_text b (get_or aspects i d) in
     let next : differences_text b first (drop i aspects) ≡ separator first ++ (one ++ rest) =
-        step b first aspects i d h ∙ rw other refl in
+    step b first aspects i d h ∙ rw other refl in
     let moved : written ++ (separator first ++ (one ++ rest)) ≡ (written ++ (separator first ++ one)) ++ rest =
-        simp append_assoc in
+    simp append_assoc in
     e ∙ ap (λ l. written ++ l) next ∙ moved
 
 -- nothing is left behind the last

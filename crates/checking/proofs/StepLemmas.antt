@@ -1,6 +1,6 @@
 -- A resource agrees with what is wanted in every aspect exactly if it is as wanted.
-use Rattle.std.proofs.Common.{◌≡◌, ◌↔◌, ℕ, zero, suc, ◌+◌, ◌<◌, Bool, true, false, not, ◌&&◌, ◌||◌, ◌==◌, cond, List, [], ◌∷◌, Option, Some, None, length, count_by, get_or, map, refl, sym, ap, ◌∙◌, arith, inl, inr, rules, subst}
-use Rattle.std.specs.List.{list_all, list_any, zip}
+use Rattle.std.proofs.Common.{◌≡◌, ℕ, zero, suc, ◌+◌, ◌<◌, Bool, true, false, not, ◌&&◌, ◌||◌, ◌==◌, cond, List, [], ◌∷◌, Option, Some, None, length, get_or, refl, sym, ap, ◌∙◌, arith, inl, inr, rules, subst}
+use Rattle.std.specs.List.{list_all, zip}
 use Rattle.std.specs.Str.{bytes_eq}
 use Rattle.std.proofs.lemmas.Bool.{and_parts, cases_Bool}
 use Rattle.std.proofs.lemmas.List.Sums.{sum_by-cons}
@@ -16,7 +16,7 @@ use Rattle.scim_resource.specs.Contents.{IsContent}
 use Rattle.scim_resource.specs.declared.contents.Content.{Content}
 use Rattle.scim_resource.specs.declared.contents.Content.TheVariants.{User, Group}
 use Rattle.scim_resource.specs.declared.user_texts.UserText.TheVariants as texts
-use Rattle.checking.specs.Laws.{HaveSame, InStepMeans, IsAsWanted, IsContentAs}
+use Rattle.checking.specs.Laws.{HaveSame, InStepMeans, IsContentAs}
 use Rattle.checking.specs.declared.aspects.Aspect.TheVariants as aspect
 use Rattle.checking.specs.declared.aspects.Beside.{Beside}
 use Rattle.checking.specs.Aspects.{absent_from, agrees, is_in, is_in_step, same_email, same_emails, same_flag, same_revision_if, same_text}
@@ -114,15 +114,15 @@ none_absent : (xs ys : List (List ℕ)) → absent_from xs ys ≡ 0 → (id : Li
 none_absent [] ys none id there = cc
 none_absent (x ∷ xs) ys none id there = elim (cases_Bool (is_in ys x)) [
   | inl held ↦
-    let stepped : absent_from (x ∷ xs) ys ≡ 0 + absent_from xs ys = absent_step x xs ys ∙ rw held refl in
-    let rest : absent_from xs ys ≡ 0 = omega (arith, stepped, none) in
-    elim (cases_Bool (bytes_eq x id)) [
-      | inl here ↦ subst (λ other. is_in ys other ≡ true) ((bytes_eq-Decides x id).0 here) held
-      | inr elsewhere ↦ none_absent xs ys rest id (rw elsewhere at there)
-    ]
+      let stepped : absent_from (x ∷ xs) ys ≡ 0 + absent_from xs ys = absent_step x xs ys ∙ rw held refl in
+      let rest : absent_from xs ys ≡ 0 = omega (arith, stepped, none) in
+      elim (cases_Bool (bytes_eq x id)) [
+        | inl here ↦ subst (λ other. is_in ys other ≡ true) ((bytes_eq-Decides x id).0 here) held
+        | inr elsewhere ↦ none_absent xs ys rest id (rw elsewhere at there)
+      ]
   | inr lost ↦
-    let stepped : absent_from (x ∷ xs) ys ≡ 1 + absent_from xs ys = absent_step x xs ys ∙ rw lost refl in
-    absurd (omega (arith, stepped, none))
+      let stepped : absent_from (x ∷ xs) ys ≡ 1 + absent_from xs ys = absent_step x xs ys ∙ rw lost refl in
+      absurd (omega (arith, stepped, none))
 ]
 
 or_true : (b : Bool) → (b || true) ≡ true
@@ -257,50 +257,52 @@ step_from : (known : Option (List ℕ)) (wanted : Content) (id : List ℕ) (vers
 step_from known (User u) id version (User v) a b all =
     let spelled : v.user_name ≡ u.user_name = sym ((bytes_eq-Decides u.user_name v.user_name).0 all.1) in
     let texts : v.texts ≡ u.texts = texts_from_parts u.texts v.texts a.texts.count b.texts.count
-        (text_same _ _ all.5) (text_same _ _ all.4) (text_same _ _ all.3) (text_same _ _ all.2) in
+    (text_same _ _ all.5) (text_same _ _ all.4) (text_same _ _ all.3) (text_same _ _ all.2) in
     user_from_parts u v spelled texts (emails_same u.emails v.emails all.6) (flag_same u.active v.active all.0)
     (revision_same u.revision v.revision all.8)
 step_from known (User u) id version (Group g) a b all = let wrong : false ≡ true = all.1 in cc
 step_from known (Group g) id version (User u) a b all = let wrong : false ≡ true = all.1 in cc
 step_from known (Group g) id version (Group h) a b all =
-    let spelled : h.display_name ≡ g.display_name = sym ((bytes_eq-Decides g.display_name h.display_name).0 all.1) in
-    (group_from_parts g h spelled (text_same g.external_id h.external_id all.4)
-    (revision_same g.revision h.revision all.8), members_same g.members h.members all.7)
+    let spelled : h.display_name ≡ g.display_name = sym ((bytes_eq-Decides g.display_name h.display_name).0 all.1) in (
+      group_from_parts g h spelled (text_same g.external_id h.external_id all.4)
+          (revision_same g.revision h.revision all.8),
+      members_same g.members h.members all.7,
+    )
 
 step_to : (known : Option (List ℕ)) (wanted : Content) (id : List ℕ) (version : Option (List ℕ)) (found : Content)
     → IsContentAs wanted found → known ≡ Some id → Agree (beside known wanted id version found)
 step_to known (User u) id version (User v) same is = (
-    flag_alike u.active v.active (ap (λ w. w.active) same),
-    (bytes_eq-Decides u.user_name v.user_name).1 (sym (ap (λ w. w.user_name) same)),
-    text_alike _ _ (ap (λ w. text_at texts.GivenName w.texts) same),
-    text_alike _ _ (ap (λ w. text_at texts.FamilyName w.texts) same),
-    text_alike _ _ (ap (λ w. text_at texts.ExternalId w.texts) same),
-    text_alike _ _ (ap (λ w. text_at texts.Department w.texts) same),
-    emails_alike u.emails v.emails (ap (λ w. w.emails) same),
-    refl,
-    revision_alike u.revision v.revision (ap (λ w. w.revision) same),
-    text_alike known (Some id) (sym is),
+  flag_alike u.active v.active (ap (λ w. w.active) same),
+  (bytes_eq-Decides u.user_name v.user_name).1 (sym (ap (λ w. w.user_name) same)),
+  text_alike _ _ (ap (λ w. text_at texts.GivenName w.texts) same),
+  text_alike _ _ (ap (λ w. text_at texts.FamilyName w.texts) same),
+  text_alike _ _ (ap (λ w. text_at texts.ExternalId w.texts) same),
+  text_alike _ _ (ap (λ w. text_at texts.Department w.texts) same),
+  emails_alike u.emails v.emails (ap (λ w. w.emails) same),
+  refl,
+  revision_alike u.revision v.revision (ap (λ w. w.revision) same),
+  text_alike known (Some id) (sym is),
 )
 step_to known (User u) id version (Group g) same is = absurd same
 step_to known (Group g) id version (User u) same is = absurd same
 step_to known (Group g) id version (Group h) same is = (
-    refl,
-    (bytes_eq-Decides g.display_name h.display_name).1 (sym (ap (λ w. w.display_name) same.0)),
-    refl,
-    refl,
-    text_alike g.external_id h.external_id (ap (λ w. w.external_id) same.0),
-    refl,
-    refl,
-    members_alike g.members h.members same.1,
-    revision_alike g.revision h.revision (ap (λ w. w.revision) same.0),
-    text_alike known (Some id) (sym is),
+  refl,
+  (bytes_eq-Decides g.display_name h.display_name).1 (sym (ap (λ w. w.display_name) same.0)),
+  refl,
+  refl,
+  text_alike g.external_id h.external_id (ap (λ w. w.external_id) same.0),
+  refl,
+  refl,
+  members_alike g.members h.members same.1,
+  revision_alike g.revision h.revision (ap (λ w. w.revision) same.0),
+  text_alike known (Some id) (sym is),
 )
 
 pub in_step_means : InStepMeans
 in_step_means b wanted found = (
-    λ e. let all = agree_from b e in record {
-      content = step_from b.known b.wanted b.found.id b.found.version b.found.content wanted found all;
-      id = sym (text_same b.known (Some b.found.id) all.9);
-    },
-    λ is. to_agree b (step_to b.known b.wanted b.found.id b.found.version b.found.content is.content is.id)
+  λ e. let all = agree_from b e in record {
+    content = step_from b.known b.wanted b.found.id b.found.version b.found.content wanted found all;
+    id = sym (text_same b.known (Some b.found.id) all.9);
+  },
+  λ is. to_agree b (step_to b.known b.wanted b.found.id b.found.version b.found.content is.content is.id),
 )

@@ -27,7 +27,6 @@ use Rattle.checking.specs.declared.begun.Pending.{Pending}
 use Rattle.checking.specs.declared.counts.Counts.{Counts}
 use Rattle.checking.specs.declared.findings.Finding.{Finding}
 use Rattle.checking.specs.declared.findings.Finding.TheVariants.{Unchecked}
-use Rattle.checking.specs.declared.looking.Hindrance.{Hindrance}
 
 -- a record and what was found of it
 abbrev pub Told : Type 0

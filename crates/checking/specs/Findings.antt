@@ -1,5 +1,5 @@
 -- What is asked about a record, and what the answer says of it.
-use Rattle.std.specs.Prelude.{◌≡◌, ◌==◌, ℕ, Bool, true, false, not, List, [], ◌∷◌, Option, Some, None, Result, Ok, Err, if◌then◌else◌}
+use Rattle.std.specs.Prelude.{◌==◌, ℕ, Bool, true, false, not, List, [], ◌∷◌, Option, Some, None, Result, Ok, Err, if◌then◌else◌}
 use Rattle.scim_key.specs.Records.{same_name}
 use Rattle.scim_key.specs.Revisions.{RevisionValue, before}
 use Rattle.scim_key.specs.declared.records.RecordName.{RecordName}
@@ -16,7 +16,6 @@ use Rattle.mapping.specs.declared.groups.ImageFault.TheVariants.{MemberWithoutId
 use Rattle.connector_core.specs.Asking.{search_for}
 use Rattle.connector_core.specs.Book.{Book, known_id, wanted_row}
 use Rattle.connector_core.specs.Changing.{member_at}
-use Rattle.provisioning.specs.declared.faults.RecordFault.{RecordFault}
 use Rattle.provisioning.specs.declared.faults.RecordFault.TheVariants.{NoSuchRecord, Refused, Unanswered, Unfit}
 use Rattle.checking.specs.Aspects.{agrees, is_in_step}
 use Rattle.checking.specs.declared.aspects.Aspect.TheVariants.{Active}

@@ -8,7 +8,6 @@ use Rattle.scim_key.specs.declared.records.Kind.{Kind}
 use Rattle.scim_key.specs.declared.records.Kind.TheVariants as kinds
 use Rattle.scim_key.specs.declared.records.RecordName.{RecordName}
 use Rattle.scim_resource.specs.Contents.{content_kind, content_revision, spelled_name}
-use Rattle.scim_resource.specs.declared.contents.Content.{Content}
 use Rattle.scim_resource.specs.declared.emails.Email.{Email}
 use Rattle.scim_resource.specs.declared.user_texts.UserText.{UserText}
 use Rattle.scim_resource.specs.declared.user_texts.UserText.TheVariants as texts

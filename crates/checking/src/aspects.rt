@@ -54,7 +54,10 @@ impl Beside {
         match aspect {
             Aspect::Active => is_active(wanted) == is_active(found),
             Aspect::Name => same_spelling(wanted, found),
-            Aspect::Text(which) => same_text(content_text(wanted, which), content_text(found, which)),
+            Aspect::Text(which) => same_text(
+                content_text(wanted, which),
+                content_text(found, which),
+            ),
             Aspect::Emails => same_emails(content_emails(wanted), content_emails(found)),
             Aspect::Members => self.missing() == 0 && self.surplus() == 0,
             Aspect::Revision => same_revision(wanted.revision(), found.revision()),
@@ -173,7 +176,9 @@ fn same_emails(some: &[Email], others: &[Email]) -> bool
 fn are_same(some: &[Email], others: &[Email]) -> bool
     ensures { result ≡ list_all (λ p. same_email p.0 p.1) (zip some.now others.now) }
 {
-    some.iter().zip(others.iter()).all(|(one, other)| same_email(one, other))
+    some.iter()
+        .zip(others.iter())
+        .all(|(one, other)| same_email(one, other))
 }
 
 /// How many of the first aren't in the second.

@@ -72,7 +72,12 @@ impl<'a> fmt::Display for Difference<'a> {
             }
             Aspect::Emails => {
                 let (found, wanted) = (content_emails(found), content_emails(wanted));
-                write!(f, "emails: {}, wanted {}", Addresses(found), Addresses(wanted))
+                write!(
+                    f,
+                    "emails: {}, wanted {}",
+                    Addresses(found),
+                    Addresses(wanted)
+                )
             }
             Aspect::Members => {
                 let (missing, surplus) = (self.beside.missing(), self.beside.surplus());
@@ -80,7 +85,12 @@ impl<'a> fmt::Display for Difference<'a> {
             }
             Aspect::Revision => {
                 let (found, wanted) = (found.revision(), wanted.revision());
-                write!(f, "revision: {}, wanted {}", RevisionIf(found), RevisionIf(wanted))
+                write!(
+                    f,
+                    "revision: {}, wanted {}",
+                    RevisionIf(found),
+                    RevisionIf(wanted)
+                )
             }
             Aspect::Id => {
                 let found = Printable(self.beside.found.id().as_str().as_bytes());

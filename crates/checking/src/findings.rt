@@ -91,12 +91,7 @@ fn answered(wanted: Content, known: Option<ResourceId>, answer: Answer) -> Findi
 }
 
 /// The finding of a list of this many resources, which shows these.
-fn listed(
-    wanted: Content,
-    known: Option<ResourceId>,
-    total: u64,
-    resources: Vec<Shown>,
-) -> Finding
+fn listed(wanted: Content, known: Option<ResourceId>, total: u64, resources: Vec<Shown>) -> Finding
     ensures { result ≡ listed wanted known total resources.items }
 {
     let mut resources = resources.into_iter();

@@ -34,7 +34,15 @@ pub fn check_all<J: Journal, D: Dial, T: TellFinding>(
 {
     let names = names_in_order(connector)?;
     let waiting = VecDeque::from_vec(names);
-    check_names(alloc, service, connector, dial, teller, waiting, streams as usize)
+    check_names(
+        alloc,
+        service,
+        connector,
+        dial,
+        teller,
+        waiting,
+        streams as usize,
+    )
 }
 
 /// Checks these records.

@@ -34,12 +34,19 @@ pub fn check<'a, R: Runtime + Net + AllocGlobal, J: EntryStorage>(
         J.Entries.is_closed (found_of words.now) journal.entry) }
 {
     let storage = journal.ok_or(CommandFault::File)?;
-    let to = to(words)?;
+    let (to, streams) = (to(words)?, streams(words)?);
     let service = ScimService::new(base(rt.alloc(), words)?);
     let connector = copy_of(rt.alloc(), storage)?;
     let mut out = standard_output(rt)?;
-    let manner = (is_quiet(words), streams(words)?);
-    check_to(rt, &connector, &service, manner, to, &mut out)
+    check_to(
+        rt,
+        &connector,
+        &service,
+        is_quiet(words),
+        streams,
+        to,
+        &mut out,
+    )
 }
 
 /// The connector over a copy of the entries of a journal, which is closed again.
@@ -61,7 +68,8 @@ fn check_to<'a, R: Runtime + Net + AllocGlobal, W: Write + Drop>(
     rt: &'a R,
     connector: &Connector<MemoryJournal>,
     service: &ScimService,
-    (is_quiet, streams): (bool, u32),
+    is_quiet: bool,
+    streams: u32,
     to: &str,
     out: &mut NotedWriter<W>,
 ) -> Result<Status, CommandFault>

@@ -33,9 +33,7 @@ pub(crate) fn push_order<J: Journal>(
 }
 
 /// The names of all records, in the order in which they settle.
-pub fn names_in_order<J: Journal>(
-    connector: &Connector<J>,
-) -> Result<Vec<RecordName>, RunFault>
+pub fn names_in_order<J: Journal>(connector: &Connector<J>) -> Result<Vec<RecordName>, RunFault>
     ensures order { IfOk result (λ names. IsSettleOrder (keys connector.now.book) names.items) }
     ensures fault { IfErr result (λ fault. fault ≡ Memory) }
 {

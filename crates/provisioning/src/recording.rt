@@ -66,7 +66,7 @@ pub struct Recording<R: Drop> {
 }
 
 impl<R: Read + Drop> Recording<R> {
-    pub fn new(reader: R) -> Recording<R>
+    pub(crate) fn new(reader: R) -> Recording<R>
         ensures { result.reader ≡ reader }
     {
         Recording {

@@ -151,7 +151,9 @@ static COMMANDS: &[CommandText] = &[
             },
             BASE,
             OptionText {
-                help: Help::Text("prints only accounts that are active and shouldn't be, or the other way round"),
+                help: Help::Text(
+                    "prints only accounts that are active and shouldn't be, or the other way round",
+                ),
                 rule: Rule::Optional,
                 ..QUIET
             },

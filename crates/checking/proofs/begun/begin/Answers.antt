@@ -11,10 +11,14 @@ returns-in_err-look g c =
     c.args.name.now p.0 c.from_residual.result p.1 (p.2 ∙ c.in_err-look.ensures.fault)
 
 pub returns : goal.returns
-returns g c = (Ok c.in-Ok-dial.stream ∷ [], c.in-Ok-dial.ensures, record {
-  stream = c.in-Ok-dial.stream;
-  request = c.in-Ok.look.request;
-  asked = sym c.in_ok-look.ensures.looks ∙ c.in-Ok.is;
-  opened_are = refl;
-  set_out = c.send_on-flight.ensures;
-})
+returns g c = (
+  Ok c.in-Ok-dial.stream ∷ [],
+  c.in-Ok-dial.ensures,
+  record {
+    stream = c.in-Ok-dial.stream;
+    request = c.in-Ok.look.request;
+    asked = sym c.in_ok-look.ensures.looks ∙ c.in-Ok.is;
+    opened_are = refl;
+    set_out = c.send_on-flight.ensures;
+  },
+)
