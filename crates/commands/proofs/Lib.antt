@@ -3,3 +3,4 @@ pub mod RunLemmas
 mod StoredLemmas
 pub mod AmongLemmas
 pub mod ScopeLemmas
+mod CheckLemmas

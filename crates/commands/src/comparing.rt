@@ -1,8 +1,7 @@
 //! `check`: what the provider has, beside what the journal wants.
-ghost use Rattle.std.specs.Prelude.{◌≡◌, IfOk, codes};
-ghost use Rattle.clap.specs.Matches.{found_of, one_text};
-ghost use Rattle.commands.specs.Comparing.{EndsChecking, IsCheckedAt, IsCopyOf};
-ghost use Rattle.commands.specs.Simulating.{is_set};
+ghost use Rattle.std.specs.Prelude.{IfOk};
+ghost use Rattle.clap.specs.Matches.{found_of};
+ghost use Rattle.commands.specs.Comparing.{EndsChecking, IsCheckedAt, IsCheckedFrom, IsCopyOf};
 
 use crate::endings::checked_status;
 use crate::manners::{is_quiet, streams};
@@ -34,19 +33,25 @@ pub fn check<'a, R: Runtime + Net + AllocGlobal, J: EntryStorage>(
         J.Entries.is_closed (found_of words.now) journal.entry) }
 {
     let storage = journal.ok_or(CommandFault::File)?;
+    check_named(rt, words, storage)
+}
+
+/// Asks the provider that the arguments name about each record of a journal.
+fn check_named<'a, R: Runtime + Net + AllocGlobal, J: EntryStorage>(
+    rt: &'a R,
+    words: &ArgMatches<'_>,
+    storage: &J,
+) -> Result<Status, CommandFault>
+    ensures { IfOk result (IsCheckedFrom ⟦<TimedHandle<'a, R::Stream, R> as Read>⟧.remaining
+        ⟦<TimedHandle<'a, R::Stream, R> as Write>⟧.contents J.Entries.Journal
+        (J.finds storage.now) J.Entries.is_closed (found_of words.now)) }
+{
     let (to, streams) = (to(words)?, streams(words)?);
     let service = ScimService::new(base(rt.alloc(), words)?);
     let connector = copy_of(rt.alloc(), storage)?;
     let mut out = standard_output(rt)?;
-    check_to(
-        rt,
-        &connector,
-        &service,
-        is_quiet(words),
-        streams,
-        to,
-        &mut out,
-    )
+    let is_quiet = is_quiet(words);
+    check_to(rt, &connector, &service, is_quiet, streams, to, &mut out)
 }
 
 /// The connector over a copy of the entries of a journal, which is closed again.
