@@ -109,7 +109,8 @@ ReportsFirst remaining (p ∷ ps) new counts before after more =
 abbrev pub MakesRoom : {I O : Type 0} → (I → Option (List ℕ)) → (old new : List (Pending I O)) → Counts
     → (before after : Option (List Told)) → Result Counts RunFault → Type 0
 MakesRoom remaining old new counts before after (Ok more) =
-    ReportsFirst remaining old new counts before after more ⊎ ((new ≡ old) × (after ≡ before) × (more ≡ counts))
+    ReportsFirst remaining old new counts before after more
+    ⊎ ((new ≡ old) × (after ≡ before) × (more ≡ counts))
 MakesRoom remaining old new counts before after (Err fault) = IsUntold fault
 
 -- all were reported, in their order

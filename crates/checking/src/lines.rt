@@ -15,8 +15,8 @@ use scim_key::RecordName;
 use std::io::Write;
 use std::{fmt, io};
 
-/// What is printed behind the record's name: ` active: true, wanted false`, `: gone`, `: unchecked C4`, or `: revision 7,
-/// above the wanted 2`.
+/// What is printed behind the record's name: ` active: true, wanted false`, `: gone`, `: unchecked C4`, or
+/// `: revision 7, above the wanted 2`.
 impl fmt::Display for Finding {
     ghost output = { λ finding. Some (finding_text finding) };
 
