@@ -183,7 +183,7 @@ module _ {I O J : Type 0} (remaining : I → Option (List ℕ))
     pub waits : (last ≡ []) ⊎ ((name : RecordName) × (later : List RecordName) × (scene.waiting ≡ name ∷ later))
 
   -- The cause of a fault: the next record couldn't be begun; or a record that was under way, or waited, couldn't go on,
-  -- or learning from its answer ended the run; or a record that is done couldn't be reported. The other records are these
+  -- or learning from its answer ended the run; or a record that is done couldn't be reported. The others are these
   abbrev pub Causes : (last : List (Opening I O)) → Scene I O J → (rest : List (Track I O)) → (new : State J)
       → RunFault → Type 0
   Causes last scene rest new fault =
