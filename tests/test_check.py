@@ -71,6 +71,13 @@ class StoreTest(CheckTest):
         self.leave()
         self.checks(2, "user bob active: true, wanted false", counts(2, 1), changed=[(BOB, {"active": True})])
 
+    def test_a_change_that_a_higher_revision_undoes(self):
+        self.leave()
+        self.checks(2, "user bob active: true, wanted false", counts(2, 1), changed=[(BOB, {"active": True})])
+        self.site.write_users("bob,3,,,,,left")
+        self.pushes(2, "user ann confirmed 1", "user bob confirmed 3")
+        self.checks(2, counts(2), status=0)
+
     def test_somebody_who_is_switched_off(self):
         self.join()
         self.checks(2, "user ann active: false, wanted true", counts(2, 1), changed=[(ANN, {"active": False})])
