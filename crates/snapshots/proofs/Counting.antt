@@ -1,21 +1,15 @@
 -- How often each name stands in a snapshot.
-use Rattle.std.proofs.Common.{◌≡◌, ℕ, ◌+◌, Some, unwrap_or, refl, ap, ◌∙◌, inl, inr}
+use Rattle.std.proofs.Common.{◌≡◌, ℕ, ◌+◌, Some, refl, ap, ◌∙◌, inl, inr}
 use Rattle.std.proofs.lemmas.Bool.{cases_Bool}
 use Rattle.std.specs.BTreeMap.{BTreeMap, Updates, get}
 use Rattle.scim_key.specs.RecordOrder.{tied}
 use Rattle.scim_key.specs.Records.{name_cmp, same_name}
 use Rattle.scim_key.specs.declared.records.RecordName.{RecordName}
 use Rattle.journal_core.proofs.Trees.{name_from_test}
-use Rattle.snapshots.specs.Tally.{mentioned_more}
-
-abbrev Counts : Type 0
-Counts = BTreeMap RecordName ℕ
-
-abbrev count_in : Counts → RecordName → ℕ
-count_in tree name = unwrap_or (get name_cmp tree name) 0
+use Rattle.snapshots.specs.Tally.{count_in, mentioned_more}
 
 -- one more of this name
-pub counted : (old new : Counts) (name : RecordName) (count : ℕ) → count ≡ count_in old name
+pub counted : (old new : BTreeMap RecordName ℕ) (name : RecordName) (count : ℕ) → count ≡ count_in old name
     → Updates name_cmp old new name (Some (count + 1))
     → (other : RecordName) → count_in new other ≡ mentioned_more (count_in old) name other
 counted old new name count is updates other = elim (cases_Bool (same_name name other)) [

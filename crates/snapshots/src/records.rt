@@ -3,7 +3,7 @@ ghost use Rattle.std.specs.Prelude.{◌≡◌, IfOk, Ok};
 ghost use Rattle.connector_core.specs.Book.{wanted_row};
 ghost use Rattle.connector_core.specs.Maps.{book_of};
 ghost use Rattle.snapshots.specs.Snapshots.{is_repeated as repeated_by, numbered_file, numbered_record};
-ghost use Rattle.snapshots.specs.Tally.{counts};
+ghost use Rattle.snapshots.specs.Tally.{KnowsRepeats, counts};
 
 use crate::rows::{at_place, number_row, repeated};
 use crate::tally::Tally;
@@ -20,11 +20,12 @@ fn number_said<J: Journal>(
     place: usize,
     row: Row,
 ) -> Result<Result<Row, RowFault>, AllocError>
+    requires { KnowsRepeats tally.now }
     ensures { IfOk result (λ numbered. numbered
         ≡ numbered_record (wanted_row (book_of connector.now.book)) (counts tally.now) place (Ok row)) }
 {
     let name = row.record_name(alloc)?;
-    if tally.count(&name) > 1 {
+    if tally.is_repeated(&name) {
         return Ok(Err(repeated(place)));
     }
     Ok(at_place(place, number_row(connector.row(&name), row)))
@@ -32,10 +33,11 @@ fn number_said<J: Journal>(
 
 /// Whether another record of the snapshot has the same name as the rejected record.
 fn is_repeated(tally: &Tally, rejected: &Rejected) -> bool
+    requires { KnowsRepeats tally.now }
     ensures { result ≡ repeated_by (counts tally.now) rejected.now.name }
 {
     match &rejected.name {
-        Some(name) => tally.count(name) > 1,
+        Some(name) => tally.is_repeated(name),
         None => false,
     }
 }
@@ -48,6 +50,7 @@ fn number_record<J: Journal>(
     place: usize,
     said: Result<Row, Rejected>,
 ) -> Result<Result<Row, RowFault>, AllocError>
+    requires { KnowsRepeats tally.now }
     ensures { IfOk result (λ numbered. numbered
         ≡ numbered_record (wanted_row (book_of connector.now.book)) (counts tally.now) place said) }
 {
@@ -65,6 +68,7 @@ pub(crate) fn number_file<J: Journal>(
     tally: &Tally,
     records: Vec<Result<Row, Rejected>>,
 ) -> Result<Vec<Result<Row, RowFault>>, AllocError>
+    requires { KnowsRepeats tally.now }
     ensures { IfOk result (λ rows. rows.items
         ≡ numbered_file (wanted_row (book_of connector.now.book)) (counts tally.now) 1 records.items) }
 {

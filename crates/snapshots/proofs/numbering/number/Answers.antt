@@ -13,7 +13,7 @@ returns-then-is_some-clause-rows g c =
     unsure_whole (wanted_row (book_of c.args.connector.now.book)) (keys c.args.connector.now.book) c.args.kind
     c.args.records.items c.args.is_closed
     (counts c.in_ok-tally.tally) c.in_ok-rows.rows.items c.in_ok-rows.rows.items c.doubt-unsure.result
-    (λ name. c.in_ok-tally.ensures name ∙ ap (λ l. mentions_in l name) c.deref.ensures.value)
+    (λ name. c.in_ok-tally.ensures.counts name ∙ ap (λ l. mentions_in l name) c.deref.ensures.value)
     c.in_ok-rows.ensures (c.doubt-unsure.ensures ∙ ap (λ l. unsure c.args.is_closed l) c.deref-2.ensures.value)
     doubtful refl
 
@@ -23,6 +23,6 @@ returns-clause-rows g c =
     sure_whole (wanted_row (book_of c.args.connector.now.book)) (keys c.args.connector.now.book) c.args.kind
     c.args.records.items c.args.is_closed
     (counts c.in_ok-tally.tally) c.in_ok-rows.rows.items c.push_absent.new.rows.items c.doubt-unsure.result
-    (λ name. c.in_ok-tally.ensures name ∙ ap (λ l. mentions_in l name) c.deref.ensures.value)
+    (λ name. c.in_ok-tally.ensures.counts name ∙ ap (λ l. mentions_in l name) c.deref.ensures.value)
     c.in_ok-rows.ensures (c.doubt-unsure.ensures ∙ ap (λ l. unsure c.args.is_closed l) c.deref-2.ensures.value) certain
     c.in_ok-push_absent.ensures

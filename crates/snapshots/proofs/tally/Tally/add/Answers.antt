@@ -1,7 +1,11 @@
-use Rattle.std.proofs.Common.{rules}
+use Rattle.std.proofs.Common.{refl}
 use Rattle.snapshots.proofs.Counting.{counted}
 use Rattle.snapshots.proofs.tally.Tally.add.Goals as goal
 
-pub returns : goal.returns
-returns c other = counted c.args.self.now.counts c.insert.new.self c.args.name c.unwrap_or-count.result
-    (search rules) c.in_ok-insert.ensures.updates other
+pub returns-then-branch-gt1-clause-counts : goal.returns-then-branch-gt1-clause-counts
+returns-then-branch-gt1-clause-counts c other =
+    counted c.args.self.now.counts c.count_one.new.counts c.args.name _ refl c.in_ok-count_one.ensures.updates other
+
+pub returns-else-branch-gt1-clause-counts : goal.returns-else-branch-gt1-clause-counts
+returns-else-branch-gt1-clause-counts c other =
+    counted c.args.self.now.counts c.count_one.new.counts c.args.name _ refl c.in_ok-count_one.ensures.updates other
