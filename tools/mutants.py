@@ -53,7 +53,8 @@ from mutant_files import write_mutants
 MOST_SECONDS = 3600
 NOT_REJECTED = "NOT REJECTED"
 # What the prover prints of a goal that isn't proved, by its place in the code or in the function's own proof
-OPEN_IN_CODE = re.compile(r"^note: (?:\./)?(src/\S+\.rt):(\d+):\d+: it is not proved(?:.*?\(`([^`\n]+)`\))?", re.M)
+OPEN_IN_CODE = re.compile(r"^note: (?:\./)?(src/\S+\.rt):(\d+):\d+: (?:it is not proved|`search` found no proof)"
+                          r"(?:.*?\(`([^`\n]+)`\))?", re.M)
 OPEN_IN_PROOF = re.compile(r"^(?:\./)?proofs/(\S+)/[A-Z]\w*\.antt:\d+:\d+: error(?:: `([^`\n]+)`)?(.*)", re.M)
 ANY_ERROR = re.compile(r"^(?:\./)?((?:src|specs|proofs)/\S+):\d+:\d+: error(?:: `([^`\n]+)`)?", re.M)
 # A proof that names what the mutant took away says little of the contract
