@@ -29,6 +29,8 @@ record_fault_text faults.NoSuchRecord = codes "C7"
 abbrev pub obstacle_text : Obstacle → List ℕ
 obstacle_text obstacles.Unauthorized = codes "401"
 obstacle_text obstacles.Forbidden = codes "403"
+obstacle_text obstacles.TooMany = codes "429"
+obstacle_text obstacles.Unavailable = codes "503"
 obstacle_text obstacles.Lost = codes "the connection failed"
 
 -- how many records in a row met which obstacle

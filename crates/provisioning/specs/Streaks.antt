@@ -11,7 +11,7 @@ use Rattle.provisioning.specs.declared.records.Pushed.{Pushed}
 use Rattle.provisioning.specs.declared.records.Standing.{Standing}
 use Rattle.provisioning.specs.declared.records.Standing.TheVariants.{Confirmed, Waits, Unconfirmed}
 use Rattle.provisioning.specs.declared.streaks.Obstacle.{Obstacle}
-use Rattle.provisioning.specs.declared.streaks.Obstacle.TheVariants.{Unauthorized, Forbidden, Lost}
+use Rattle.provisioning.specs.declared.streaks.Obstacle.TheVariants.{Unauthorized, Forbidden, TooMany, Unavailable, Lost}
 use Rattle.provisioning.specs.declared.streaks.Streak.{Streak}
 
 -- ---- what may keep every record from being confirmed
@@ -27,7 +27,8 @@ obstacle_lost (NoAnswer fault) = None
 
 abbrev pub obstacle_refused : (status : ℕ) → Option Obstacle
 obstacle_refused status =
-    if status == 401 then Some Unauthorized else (if status == 403 then Some Forbidden else None)
+    if status == 401 then Some Unauthorized else (if status == 403 then Some Forbidden
+    else (if status == 429 then Some TooMany else (if status == 503 then Some Unavailable else None)))
 
 abbrev pub obstacle_in : RecordFault → Option Obstacle
 obstacle_in (Unanswered fault) = obstacle_lost fault
@@ -45,6 +46,8 @@ obstacle_of (Waits member) = None
 abbrev pub same_obstacle : Obstacle → Obstacle → Bool
 same_obstacle Unauthorized Unauthorized = true
 same_obstacle Forbidden Forbidden = true
+same_obstacle TooMany TooMany = true
+same_obstacle Unavailable Unavailable = true
 same_obstacle Lost Lost = true
 same_obstacle _ _ = false
 

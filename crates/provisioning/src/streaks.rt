@@ -14,6 +14,10 @@ pub enum Obstacle {
     Unauthorized,
     /// The provider answers 403.
     Forbidden,
+    /// The provider answers 429: it has too many requests.
+    TooMany,
+    /// The provider answers 503: it isn't available.
+    Unavailable,
     /// A connection was opened, and failed (H10, H11, H12, H14).
     Lost,
 }
@@ -28,6 +32,8 @@ impl fmt::Display for Obstacle {
         match self {
             Obstacle::Unauthorized => f.write_str("401"),
             Obstacle::Forbidden => f.write_str("403"),
+            Obstacle::TooMany => f.write_str("429"),
+            Obstacle::Unavailable => f.write_str("503"),
             Obstacle::Lost => f.write_str("the connection failed"),
         }
     }
@@ -119,6 +125,8 @@ fn obstacle_refused(status: u16) -> Option<Obstacle>
     match status {
         401 => Some(Obstacle::Unauthorized),
         403 => Some(Obstacle::Forbidden),
+        429 => Some(Obstacle::TooMany),
+        503 => Some(Obstacle::Unavailable),
         _ => None,
     }
 }
