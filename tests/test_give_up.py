@@ -5,7 +5,7 @@ from peers import answer, head
 from support import NOWHERE, scimlink
 from test_push_abreast import AbreastTest, names
 
-UNAUTHORIZED, FORBIDDEN = answer(401), answer(403)
+UNAUTHORIZED, FORBIDDEN, TOO_MANY, UNAVAILABLE = (answer(status) for status in (401, 403, 429, 503))
 CUT = head(200, Content_Length=3) + b"{}"
 GIVEN_UP = "given up after 10 records in a row: 401"
 
@@ -30,6 +30,8 @@ class GiveUpTest(AbreastTest):
         obstacles = [
             (UNAUTHORIZED, "C4", "401"),
             (FORBIDDEN, "C4", "403"),
+            (TOO_MANY, "C4", "429"),
+            (UNAVAILABLE, "C4", "503"),
             (b"", "H10", "the connection failed"),
             (CUT, "H10", "the connection failed"),
         ]
