@@ -318,7 +318,7 @@ class UnsureTest(SnapshotTest):
         for content, line in (
             (b"", ""), (b"\n", ""), (b"mail\nann@x\n", "mail"), (b"name,members\r\ncrew,ann\r\n", "name,members"),
             (b"login,mail,Login\nann,,ann\n", "login,mail,Login"), (b"login;\\\n", r"login;\x5C"),
-            ("Größe".encode(), "Größe"), (b"\x1b\xff", r"\x1B\xFF"), (b"m" * 401, "m" * 400),
+            ("Größe".encode(), "Größe"), (b"\x1b\xff", r"\x1B\xFF"), (b"m" * 400, "m" * 400), (b"m" * 401, "m" * 400),
         ):
             self.unsure_of_users(content, *wrong_header("users", line, NOBODY))
 
