@@ -1,11 +1,11 @@
 -- What a judged head says.
-use Rattle.std.proofs.Common.{◌≡◌, ℕ, Bool, true, false, cond, Option, Some, None, Result, Ok, Err, refl}
-use Rattle.std.specs.Prelude.{IfOk, IfErr, ◌==◌, if◌then◌else◌, nat_lt, codes, ⊤}
+use Rattle.std.proofs.Common.{◌≡◌, ℕ, Bool, true, false, cond, not, ◌&&◌, Option, Some, None, Result, Ok, Err, refl}
+use Rattle.std.specs.Prelude.{IfOk, IfErr, if◌then◌else◌, nat_lt, codes, ⊤}
 use Rattle.std.proofs.lemmas.Result.{IfOk-at_ok, IfErr-at_err}
 use Rattle.http_text.specs.declared.fault.ReadFault.{ReadFault}
 use Rattle.http_text.specs.declared.fault.ReadFault.TheVariants.{Malformed, HostMissingOrRepeated, LengthMissing, BodyTooLong, HeadTooLong, TransferCoding, Expectation, EndedEarly, ReadFailed, OutOfMemory, TurnsExhausted}
 use Rattle.http_text.specs.Message.{Head, minor_of, code_of, values, Length, absent, stated, unreadable, length_of, body_length, body_limit, response_body_limit}
-use Rattle.http_text.specs.Judging.{◌>>=◌, refused_where, readable_length, length_wanted, is_head, has_body, is_host_wrong, is_any, judge_head, response_length, judge_response}
+use Rattle.http_text.specs.Judging.{◌>>=◌, refused_where, readable_length, length_wanted, is_head, has_body, is_host_wrong, is_any, judge_head, codings, is_chunked_alone, is_bodiless, is_no_status, has_chunks, response_length, judge_response}
 
 -- a refusal by the head
 abbrev pub IsHeadFault : ReadFault → Type 0
@@ -93,35 +93,60 @@ accepted_length head n e =
 
 -- ---- responses
 
-response_fault : (b : Bool) (length : Option ℕ) → IfErr (response_length b length) IsHeadFault
-response_fault true length = tt
-response_fault false None = tt
-response_fault false (Some n) = limit_fault (nat_lt response_body_limit n) false n
+response_fault : (b k : Bool) (length : Option ℕ) → IfErr (response_length b k length) IsHeadFault
+response_fault b true None = tt
+response_fault b true (Some n) = tt
+response_fault true false length = tt
+response_fault false false None = tt
+response_fault false false (Some n) = limit_fault (nat_lt response_body_limit n) false n
 
-abbrev judged_response : Length → Bool → Bool → Bool → Result ℕ ReadFault
-judged_response l a b c = refused_where a Malformed >>= (λ _. refused_where b Malformed >>= (λ _. readable_length l >>= (λ length. response_length c length)))
+abbrev judged_response : Length → Bool → Bool → Bool → Bool → Result ℕ ReadFault
+judged_response l a b c k = refused_where a Malformed >>= (λ _. refused_where b Malformed >>= (λ _. readable_length l >>= (λ length. response_length c k length)))
 
-response_faults : (l : Length) (a b c : Bool) → IfErr (judged_response l a b c) IsHeadFault
-response_faults l true b c = tt
-response_faults l false true c = tt
-response_faults absent false false c = response_fault c None
-response_faults (stated n) false false c = response_fault c (Some n)
-response_faults unreadable false false c = tt
+response_faults : (l : Length) (a b c k : Bool) → IfErr (judged_response l a b c k) IsHeadFault
+response_faults l true b c k = tt
+response_faults l false true c k = tt
+response_faults absent false false c k = response_fault c k None
+response_faults (stated n) false false c k = response_fault c k (Some n)
+response_faults unreadable false false c k = tt
+
+abbrev coded_otherwise : Head → Bool
+coded_otherwise head = is_any (codings head) && not (is_chunked_alone (codings head))
 
 pub response_judged_fault : (head : Head) (fault : ReadFault) → judge_response head ≡ Err fault → IsHeadFault fault
 response_judged_fault head fault e =
-    IfErr-at_err IsHeadFault e (response_faults (length_of head) (nat_lt (code_of head.start) 100) (coded head) (code_of head.start == 304))
+    IfErr-at_err IsHeadFault e
+    (response_faults (length_of head) (is_no_status (code_of head.start)) (coded_otherwise head) (is_bodiless (code_of head.start)) (is_chunked_alone (codings head)))
 
-response_accepted : (l : Length) (a b c : Bool) → IfOk (judged_response l a b c) (λ n. n ≡ (if c then 0 else body_length l))
-response_accepted l true b c = tt
-response_accepted l false true c = tt
-response_accepted absent false false true = refl
-response_accepted absent false false false = tt
-response_accepted (stated n) false false true = refl
-response_accepted (stated n) false false false = limit_length (nat_lt response_body_limit n) false n
-response_accepted unreadable false false c = tt
+response_accepted : (l : Length) (a b c k : Bool) → IfOk (judged_response l a b c k) (λ n. n ≡ (if c then 0 else body_length l))
+response_accepted l true b c k = tt
+response_accepted l false true c k = tt
+response_accepted absent false false true true = refl
+response_accepted absent false false false true = refl
+response_accepted absent false false true false = refl
+response_accepted absent false false false false = tt
+response_accepted (stated n) false false c true = tt
+response_accepted (stated n) false false true false = refl
+response_accepted (stated n) false false false false = limit_length (nat_lt response_body_limit n) false n
+response_accepted unreadable false false c k = tt
 
-pub response_accepted_length : (head : Head) (n : ℕ) → judge_response head ≡ Ok n → n ≡ (if code_of head.start == 304 then 0 else body_length (length_of head))
+pub response_accepted_length : (head : Head) (n : ℕ) → judge_response head ≡ Ok n → n ≡ (if is_bodiless (code_of head.start) then 0 else body_length (length_of head))
 response_accepted_length head n e =
-    IfOk-at_ok (λ k. k ≡ (if code_of head.start == 304 then 0 else body_length (length_of head))) e
-    (response_accepted (length_of head) (nat_lt (code_of head.start) 100) (coded head) (code_of head.start == 304))
+    IfOk-at_ok (λ k. k ≡ (if is_bodiless (code_of head.start) then 0 else body_length (length_of head))) e
+    (response_accepted (length_of head) (is_no_status (code_of head.start)) (coded_otherwise head) (is_bodiless (code_of head.start)) (is_chunked_alone (codings head)))
+
+-- chunks follow an accepted head that states no length
+chunks_length : (l : Length) (a b c k : Bool) (n : ℕ) → (not c && k) ≡ true → judged_response l a b c k ≡ Ok n → n ≡ 0
+chunks_length l true b c k n chunks e = cc
+chunks_length l false true c k n chunks e = cc
+chunks_length unreadable false false c k n chunks e = cc
+chunks_length absent false false true k n chunks e = cc
+chunks_length absent false false false false n chunks e = cc
+chunks_length absent false false false true n chunks e = cc
+chunks_length (stated m) false false true k n chunks e = cc
+chunks_length (stated m) false false false false n chunks e = cc
+chunks_length (stated m) false false false true n chunks e = cc
+
+pub response_chunks_length : (head : Head) (n : ℕ) → has_chunks head ≡ true → judge_response head ≡ Ok n → n ≡ 0
+response_chunks_length head n chunks e =
+    chunks_length (length_of head) (is_no_status (code_of head.start)) (coded_otherwise head) (is_bodiless (code_of head.start)) (is_chunked_alone (codings head)) n chunks e

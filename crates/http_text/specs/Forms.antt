@@ -1,10 +1,12 @@
 -- Requests and responses as two forms of message: which bytes are a head, and which are a message.
-use Rattle.std.specs.Prelude.{◌≡◌, ℕ, ◌≤◌, ◌==◌, List, [], ◌++◌, length, map, Result, Ok, if◌then◌else◌}
+use Rattle.std.specs.Prelude.{◌≡◌, ℕ, zero, suc, ◌≤◌, ◌⊎◌, Bool, true, false, List, [], ◌++◌, length, map, Result, Ok, if◌then◌else◌}
 use Rattle.httparse.specs.Grammar.{Field, RequestHead, ReadsRequest, print_request, EndsInTarget, ResponseHead, ReadsResponse, print_response, status_code}
 use Rattle.httparse.specs.Spans.{name_and_value}
 use Rattle.http_text.specs.declared.fault.ReadFault.{ReadFault}
+use Rattle.http_text.specs.declared.limits.TheConstants.{INTERIM_LIMIT}
+use Rattle.http_text.specs.Chunks.{IsChunkedBody}
 use Rattle.http_text.specs.Message.{StartLine, request_line, status_line, Head, Message, code_of, length_of, body_length, head_limit, field_limit}
-use Rattle.http_text.specs.Judging.{judge_head, judge_response}
+use Rattle.http_text.specs.Judging.{is_bodiless, is_interim, has_chunks, judge_head, judge_response}
 
 pub record Form : Type 1 where
   -- the heads of httparse's grammar: which bytes they read and print, their first line and their field lines
@@ -32,7 +34,7 @@ request_form = record {
   IsLate = EndsInTarget;
 }
 
--- a 304 has no body, whatever it states
+-- some have no body, whatever they state; chunks aren't counted
 abbrev pub response_form : Form
 response_form = record {
   Tree = ResponseHead;
@@ -40,7 +42,7 @@ response_form = record {
   print = print_response;
   start = λ (tree : ResponseHead). status_line tree.minor (status_code tree);
   lines = λ (tree : ResponseHead). tree.fields;
-  body = λ head. if code_of head.start == 304 then 0 else body_length (length_of head);
+  body = λ head. if is_bodiless (code_of head.start) then 0 else body_length (length_of head);
   judge = judge_response;
   IsLate = λ bytes. ⊥;
 }
@@ -85,6 +87,43 @@ IsAccepted = IsAcceptable request_form
 abbrev pub IsResponseHead : List ℕ → Head → Type 0
 IsResponseHead = IsHead response_form
 
--- a response whose head is refused isn't one
+-- what follows a response's head and the body whose length it states: nothing, or a body in chunks
+abbrev pub IsBehind : (has_chunks : Bool) → (stated : Message) → List ℕ → Message → Type 0
+IsBehind false stated behind m = (behind ≡ []) × (m ≡ stated)
+IsBehind true stated behind m = (m.head ≡ stated.head) × IsChunkedBody behind m.body
+
+-- a message whose head isn't refused, and a body in chunks behind it if its head says so
+pub record IsOneResponse (bytes : List ℕ) (m : Message) : Type 0 where
+  pub front : List ℕ
+  pub behind : List ℕ
+  pub stated : Message
+  pub split : bytes ≡ front ++ behind
+  pub is_message : IsMessage response_form front stated
+  pub accepted : IsAcceptable response_form stated
+  pub body : IsBehind (has_chunks stated.head) stated behind m
+
+-- ---- interim responses
+
+-- the greatest number of interim responses before a response
+abbrev pub interim_limit : ℕ
+interim_limit = INTERIM_LIMIT
+
+pub record IsInterim (bytes : List ℕ) : Type 0 where
+  pub message : Message
+  pub is : IsOneResponse bytes message
+  pub interim : is_interim message.head ≡ true
+
+-- at most so many interim responses, and bytes of this kind behind them, before which as many more may come
+abbrev pub AfterInterims : (room : ℕ) → (ℕ → List ℕ → Type 0) → List ℕ → Type 0
+AfterInterims zero P bytes = P zero bytes
+AfterInterims (suc room) P bytes =
+    P (suc room) bytes
+    ⊎ ((front rest : List ℕ) × IsInterim front × (bytes ≡ front ++ rest) × AfterInterims room P rest)
+
+-- a response that isn't interim
+abbrev pub IsFinalResponse : Message → ℕ → List ℕ → Type 0
+IsFinalResponse m room bytes = IsOneResponse bytes m × (is_interim m.head ≡ false)
+
+-- A response is read over the interim responses before it
 abbrev pub IsResponseMessage : List ℕ → Message → Type 0
-IsResponseMessage bytes m = IsMessage response_form bytes m × IsAcceptable response_form m
+IsResponseMessage bytes m = AfterInterims interim_limit (IsFinalResponse m) bytes

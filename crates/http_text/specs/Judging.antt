@@ -1,9 +1,9 @@
 -- Which requests and responses are refused by their heads, and in which order.
-use Rattle.std.specs.Prelude.{ℕ, Bool, true, false, ◌||◌, List, [], ◌∷◌, Option, Some, None, Result, Ok, Err, if◌then◌else◌, ◌==◌, nat_lt, codes}
+use Rattle.std.specs.Prelude.{ℕ, Bool, true, false, ◌||◌, ◌&&◌, not, List, [], ◌∷◌, Option, Some, None, Result, Ok, Err, if◌then◌else◌, ◌==◌, nat_lt, codes}
 use Rattle.std.specs.Str.{bytes_eq}
 use Rattle.http_text.specs.declared.fault.ReadFault.{ReadFault}
 use Rattle.http_text.specs.declared.fault.ReadFault.TheVariants.{Malformed, HostMissingOrRepeated, LengthMissing, BodyTooLong, TransferCoding, Expectation}
-use Rattle.http_text.specs.Message.{Head, Length, absent, stated, unreadable, method_of, minor_of, code_of, values, length_of, body_limit, response_body_limit}
+use Rattle.http_text.specs.Message.{Head, Length, absent, stated, unreadable, method_of, minor_of, code_of, lowered, values, length_of, body_limit, response_body_limit}
 
 -- one step after the other, up to the first refusal
 infixl 10 ◌>>=◌
@@ -55,16 +55,44 @@ judge_head head = do
   _ ← refused_where (is_any (values (codes "expect") head.fields)) (Expectation (is_head head))
   length_wanted (has_body head) (is_head head) length
 
--- the length of a response's body, which must be stated; but a 304 has no body, whatever it states
-abbrev pub response_length : Bool → Option ℕ → Result ℕ ReadFault
-response_length true length = Ok 0
-response_length false None = Err Malformed
-response_length false (Some n) = if nat_lt response_body_limit n then Err (BodyTooLong false) else Ok n
+-- the codings of a body, from the first to the last
+abbrev pub codings : Head → List (List ℕ)
+codings head = values (codes "transfer-encoding") head.fields
 
--- the length of the body that follows a response's head, or the first refusal
+-- `chunked` in any case, and no other coding
+abbrev pub is_chunked_alone : List (List ℕ) → Bool
+is_chunked_alone [] = false
+is_chunked_alone (coding ∷ []) = bytes_eq (lowered coding) (codes "chunked")
+is_chunked_alone (coding ∷ other ∷ others) = false
+
+-- an interim response: another one follows (RFC 9110, section 15.2)
+abbrev pub is_interim : Head → Bool
+is_interim head = nat_lt (code_of head.start) 200
+
+-- an interim response, a 204 and a 304 have no body, whatever they state (RFC 9112, section 6.3)
+abbrev pub is_bodiless : ℕ → Bool
+is_bodiless code = nat_lt code 200 || (code == 204 || code == 304)
+
+-- there is no such status, or it switches protocols
+abbrev pub is_no_status : ℕ → Bool
+is_no_status code = nat_lt code 100 || code == 101
+
+-- a body in chunks follows a response's head
+abbrev pub has_chunks : Head → Bool
+has_chunks head = not (is_bodiless (code_of head.start)) && is_chunked_alone (codings head)
+
+-- the length of a response's body: it is stated, or the body has none or comes in chunks
+abbrev pub response_length : (is_bodiless is_chunked : Bool) → Option ℕ → Result ℕ ReadFault
+response_length bodiless true None = Ok 0
+response_length bodiless true (Some n) = Err Malformed
+response_length true false length = Ok 0
+response_length false false None = Err Malformed
+response_length false false (Some n) = if nat_lt response_body_limit n then Err (BodyTooLong false) else Ok n
+
+-- the length of the body that follows a response's head, 0 before chunks, or the first refusal
 abbrev pub judge_response : Head → Result ℕ ReadFault
 judge_response head = do
-  _ ← refused_where (nat_lt (code_of head.start) 100) Malformed
-  _ ← refused_where (is_any (values (codes "transfer-encoding") head.fields)) Malformed
+  _ ← refused_where (is_no_status (code_of head.start)) Malformed
+  _ ← refused_where (is_any (codings head) && not (is_chunked_alone (codings head))) Malformed
   length ← readable_length (length_of head)
-  response_length (code_of head.start == 304) length
+  response_length (is_bodiless (code_of head.start)) (is_chunked_alone (codings head)) length

@@ -1,4 +1,6 @@
 pub mod Arrays
+pub mod Chunks
+pub mod ChunkSteps
 pub mod Counts
 pub mod Forms
 pub mod Heads
@@ -14,5 +16,6 @@ pub mod Starts
 pub mod Steps
 pub mod Streams
 pub mod Texts
+pub mod Trailers
 pub mod Wholes
 pub mod Codes

@@ -6,17 +6,18 @@ use std::{error, fmt};
 /// was HEAD, whose answer has no body.
 #[derive(Clone, Copy, Debug, PartialEq, Eq)]
 pub enum ReadFault {
-    /// No further bytes can complete a head, or `Content-Length` is repeated or isn't 1 to 18 digits.
+    /// No further bytes can complete a head or a body in chunks, or `Content-Length` is repeated or isn't 1 to 18
+    /// digits. Of a response also: its end isn't stated, or it is an interim one too many.
     Malformed,
     /// An HTTP/1.1 request without `Host`, or any request with two (RFC 9112, section 3.2).
     HostMissingOrRepeated { is_head: bool },
     /// A POST or PUT without `Content-Length`.
     LengthMissing { is_head: bool },
-    /// A `Content-Length` above 32,768 in a request, or above 8,388,608 in a response.
+    /// A `Content-Length` above 32,768 in a request, or above 8,388,608 in a response; or chunks beyond a limit.
     BodyTooLong { is_head: bool },
     /// 16,384 bytes hold no whole head, or there are more than 64 field lines.
     HeadTooLong,
-    /// There is a `Transfer-Encoding`.
+    /// A request has a `Transfer-Encoding`.
     TransferCoding { is_head: bool },
     /// There is an `Expect`.
     Expectation { is_head: bool },

@@ -2,7 +2,7 @@
 ghost use Rattle.std.specs.Prelude.{◌≡◌, Some, None, if◌then◌else◌, codes};
 ghost use Rattle.std.specs.Str.Parse.{digits_value};
 ghost use Rattle.http_text.specs.Message.{is_length, length_of, minor_of, values};
-ghost use Rattle.http_text.specs.Judging.{readable_length, refused_where, is_head, has_body, is_host_wrong, is_any, length_wanted, judge_head, response_length, judge_response};
+ghost use Rattle.http_text.specs.Judging.{readable_length, refused_where, is_head, has_body, is_host_wrong, is_any, length_wanted, judge_head, codings, is_chunked_alone, is_bodiless, is_interim, is_no_status, has_chunks, response_length, judge_response};
 
 use crate::fault::ReadFault;
 use crate::incoming::Incoming;
@@ -26,24 +26,68 @@ pub(crate) fn judge_request(message: &Incoming) -> Result<u64, ReadFault>
     length_wanted(has_body(message), is_head, length)
 }
 
-/// The length of the body that follows a response's head, or the first refusal.
+/// The length of the body that follows a response's head, 0 before chunks, or the first refusal.
 pub(crate) fn judge_response(message: &Incoming) -> Result<u64, ReadFault>
     ensures { result ≡ judge_response message.now.head }
 {
-    refuse_where(message.status() < 100, ReadFault::Malformed)?;
-    refuse_where(
-        has_field(message, "transfer-encoding"),
-        ReadFault::Malformed,
-    )?;
+    let is_chunked = is_chunked_alone(message);
+    let is_coded = has_field(message, "transfer-encoding");
+    refuse_where(is_no_status(message.status()), ReadFault::Malformed)?;
+    refuse_where(is_coded && !is_chunked, ReadFault::Malformed)?;
     let length = stated_length(message)?;
-    response_length(message.status() == 304, length)
+    response_length(is_bodiless(message.status()), is_chunked, length)
 }
 
-/// The length of a response's body; a 304 has no body, whatever it states.
-fn response_length(is_bodiless: bool, length: Option<u64>) -> Result<u64, ReadFault>
-    ensures { result ≡ response_length is_bodiless length }
+/// Whether a body in chunks follows a response's head.
+pub(crate) fn has_chunks(message: &Incoming) -> bool
+    ensures { result ≡ has_chunks message.now.head }
+{
+    !is_bodiless(message.status()) && is_chunked_alone(message)
+}
+
+/// Whether a response with this status has no body, whatever it states.
+fn is_bodiless(status: u16) -> bool
+    ensures { result ≡ is_bodiless status }
+{
+    status < 200 || status == 204 || status == 304
+}
+
+/// Whether another response follows this one.
+pub(crate) fn is_interim(message: &Incoming) -> bool
+    ensures { result ≡ is_interim message.now.head }
+{
+    message.status() < 200
+}
+
+/// Whether there is no such status, or it switches protocols.
+fn is_no_status(status: u16) -> bool
+    ensures { result ≡ is_no_status status }
+{
+    status < 100 || status == 101
+}
+
+/// Whether the only coding is `chunked`.
+fn is_chunked_alone(message: &Incoming) -> bool
+    ensures { result ≡ is_chunked_alone (codings message.now.head) }
+{
+    let mut codings = message.fields("transfer-encoding");
+    match (codings.next(), codings.next()) {
+        (Some(coding), None) => coding.eq_ignore_ascii_case(b"chunked"),
+        _ => false,
+    }
+}
+
+/// The length of a response's body: it is stated, or the body has none or comes in chunks.
+fn response_length(
+    is_bodiless: bool,
+    is_chunked: bool,
+    length: Option<u64>,
+) -> Result<u64, ReadFault>
+    ensures { result ≡ response_length is_bodiless is_chunked length }
 {
     match length {
+        None if is_chunked => Ok(0),
+        Some(_) if is_chunked => Err(ReadFault::Malformed),
         _ if is_bodiless => Ok(0),
         None => Err(ReadFault::Malformed),
         Some(length) if length > RESPONSE_BODY_LIMIT => {

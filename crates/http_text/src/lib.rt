@@ -3,6 +3,7 @@
 #![tactic(auto)]
 
 mod arrays;
+mod chunks;
 mod counts;
 mod fault;
 mod incoming;
@@ -17,6 +18,7 @@ mod response;
 mod response_reading;
 mod sending;
 mod texts;
+mod trailers;
 mod wholes;
 mod writing;
 
@@ -25,7 +27,10 @@ pub use http::StatusCode;
 pub use incoming::{FieldValues, Incoming};
 pub use input::Input;
 pub use judge::is_head;
-pub use limits::{BODY_LIMIT, FIELD_LIMIT, HEAD_LIMIT, RESPONSE_BODY_LIMIT, TURN_LIMIT};
+pub use limits::{
+    BODY_LIMIT, CHUNK_FRAMING_LIMIT, FIELD_LIMIT, HEAD_LIMIT, INTERIM_LIMIT, RESPONSE_BODY_LIMIT,
+    TURN_LIMIT,
+};
 pub use output::Output;
 pub use request::{messages_are_apart, read_request, request_in};
 pub use response::write_response;

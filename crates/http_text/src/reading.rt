@@ -40,7 +40,7 @@ pub(crate) fn read_message<R: Read>(
 }
 
 /// Reads one message of this kind. It counts how often the head is parsed.
-fn read_whole<R: Read>(
+pub(crate) fn read_whole<R: Read>(
     alloc: Global,
     kind: MessageKind,
     reader: &mut Input<R>,
@@ -132,7 +132,7 @@ fn read_body<R: Read>(
 
 /// Reads ahead, if no bytes are there from an earlier read. An interrupted read is made again while turns
 /// remain.
-fn look_ahead<R: Read>(
+pub(crate) fn look_ahead<R: Read>(
     alloc: Global,
     reader: &mut Input<R>,
     turns: &mut u32,
