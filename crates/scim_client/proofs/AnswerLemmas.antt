@@ -1,11 +1,9 @@
 -- Bytes are one response at most, so they say one thing.
 use Rattle.std.proofs.Common.{◌≡◌, ◌≢◌, ℕ, inl, inr, List, [], Result, Ok, Err, refl, ap, sym, ◌∙◌, subst}
 use Rattle.std.specs.Prelude.{IfOk, IfErr, ⊤}
-use Rattle.std.proofs.lemmas.List.{append-nil}
 use Rattle.http_text.specs.Message.{Message}
-use Rattle.http_text.specs.Forms.{response_form, IsMessage, IsResponseMessage}
-use Rattle.http_text.proofs.FormLaws.{response_laws}
-use Rattle.http_text.proofs.MessageLemmas.{messages_apart}
+use Rattle.http_text.specs.Forms.{IsResponseMessage}
+use Rattle.http_text.proofs.InterimLemmas.{responses_same}
 use Rattle.scim_message.specs.declared.answers.BodyFault.{BodyFault}
 use Rattle.scim_message.specs.declared.answers.BodyFault.TheVariants as bodies
 use Rattle.scim_message.specs.declared.messages.Answer.{Answer}
@@ -15,9 +13,7 @@ use Rattle.scim_client.specs.declared.answers.AnswerFault.TheVariants.{NotOneRes
 use Rattle.scim_client.specs.Answers.{answer_in, AnswersSo, RefusesBody, RefusesSo, IsOrMemory, SaysSo}
 
 pub one_message : (text : List ℕ) (m n : Message) → IsResponseMessage text m → IsResponseMessage text n → m ≡ n
-one_message text m n x y =
-    let whole = subst (λ (t : List ℕ). IsMessage response_form t n) (sym (append-nil text)) y.0 in
-    (messages_apart response_form response_laws text [] m n x.0 whole).0
+one_message text m n x y = (responses_same text [] text [] m n refl x y).1
 
 -- ---- a result is one thing
 

@@ -1,5 +1,5 @@
 -- From what was read, and its result, to what an exchange promises.
-use Rattle.std.proofs.Common.{◌≡◌, ℕ, ◌⊎◌, inl, inr, List, ◌++◌, Option, Some, Result, Ok, Err, refl, ap, sym, ◌∙◌, subst}
+use Rattle.std.proofs.Common.{◌≡◌, ℕ, zero, suc, ◌⊎◌, inl, inr, List, ◌++◌, Option, Some, Result, Ok, Err, refl, ap, sym, ◌∙◌, subst}
 use Rattle.scim_message.specs.declared.answers.BodyFault.TheVariants as bodies
 use Rattle.scim_message.specs.declared.messages.Answer.{Answer}
 use Rattle.scim_message.specs.declared.messages.Request.{Request}
@@ -8,10 +8,10 @@ use Rattle.http_text.specs.declared.fault.ReadFault.TheVariants as faults
 use Rattle.http_text.specs.Counts.{Reading, Writing}
 use Rattle.http_text.specs.Message.{Message}
 use Rattle.http_text.specs.Forms.{IsResponseMessage}
-use Rattle.http_text.specs.Heads.{IsStreamFault, EndsReading}
+use Rattle.http_text.specs.Heads.{IsStreamFault, IsRefusedHead, EndsReading}
 use Rattle.http_text.specs.Heads as heads
-use Rattle.http_text.specs.Forms.{response_form}
-use Rattle.http_text.specs.Responses.{IsNoResponse}
+use Rattle.http_text.specs.Forms.{response_form, AfterInterims, interim_limit}
+use Rattle.http_text.specs.Responses.{FindsResponse, AnswersMalformedHead, AnswersMalformedBody, IsNoResponse}
 use Rattle.http_text.proofs.FormLaws.{response_laws}
 use Rattle.http_text.proofs.JudgeLemmas.{IsHeadFault}
 use Rattle.scim_client.specs.declared.answers.AnswerFault.TheVariants.{NotOneResponse, NotJson, WrongShape}
@@ -183,16 +183,16 @@ module _ (request : Request) where
   left_too (inr b) c = inr b
 
   -- a message at the front is what was read
-  at_front : (remaining left : Option (List ℕ)) (r : Result Message ReadFault) → heads.FindsMessage response_form remaining left r
+  at_front : (remaining left : Option (List ℕ)) (r : Result Message ReadFault) → FindsResponse remaining left r
       → (result : Result Answer ExchangeFault) → ComesOf request r result
       → (bytes rest : List ℕ) (m : Message) → remaining ≡ Some (bytes ++ rest) → IsResponseMessage bytes m
       → (P : Type 0) → (ComesOf request (Ok m) result → P ⊎ IsHindered result)
       → (P × (left ≡ Some rest)) ⊎ IsHindered result
   at_front remaining left (Ok found) finds result h bytes rest m at is P then =
-      let found_is = finds bytes rest m at is.0 is.1 in
+      let found_is = finds bytes rest m at is in
       left_too (then (subst (λ (k : Message). ComesOf request (Ok k) result) found_is.0 h)) found_is.1
   at_front remaining left (Err fault) finds result h bytes rest m at is P then =
-      inr (hinders fault (finds bytes rest m at is.0 is.1) result h)
+      inr (hinders fault (finds bytes rest m at is) result h)
 
   abbrev Stops : Result Answer ExchangeFault → Type 0
   Stops (Ok a) = ⊥
@@ -234,13 +234,13 @@ module _ (request : Request) where
   message_goes_on m (Err (NoAnswer WrongShape)) h s = s
   message_goes_on m (Err (NoAnswer answers.OutOfMemory)) h s = s
 
-  without : (remaining left : Option (List ℕ)) (r : Result Message ReadFault) → heads.FindsMessage response_form remaining left r
+  without : (remaining left : Option (List ℕ)) (r : Result Message ReadFault) → FindsResponse remaining left r
       → (result : Result Answer ExchangeFault) → ComesOf request r result → Stops result
       → (bytes rest : List ℕ) → remaining ≡ Some (bytes ++ rest) → IsNoResponse bytes
   without remaining left (Ok found) finds result h s bytes rest at = λ m is. message_goes_on found result h s
-  without remaining left (Err fault) finds result h s bytes rest at = λ m is. hindered_goes_on result (hinders fault (finds bytes rest m at is.0 is.1) result h) s
+  without remaining left (Err fault) finds result h s bytes rest at = λ m is. hindered_goes_on result (hinders fault (finds bytes rest m at is) result h) s
 
-  malformed : (all : List ℕ) (r : Result Message ReadFault) → heads.AnswersMalformed response_form all r
+  malformed : (all : List ℕ) (r : Result Message ReadFault) → AnswersMalformedHead all r
       → (result : Result Answer ExchangeFault) → ComesOf request r result
       → (result ≡ Err (NoAnswer NotOneResponse)) ⊎ IsHindered result
   malformed all (Ok m) a result h = absurd a
@@ -255,6 +255,13 @@ module _ (request : Request) where
   malformed all (Err faults.ReadFailed) a result h = inr (hinders faults.ReadFailed tt result h)
   malformed all (Err faults.OutOfMemory) a result h = inr (hinders faults.OutOfMemory tt result h)
   malformed all (Err faults.TurnsExhausted) a result h = inr (hinders faults.TurnsExhausted tt result h)
+
+  malformed_body : (r : Result Message ReadFault) → AnswersMalformedBody r → (result : Result Answer ExchangeFault) → ComesOf request r result
+      → (result ≡ Err (NoAnswer NotOneResponse)) ⊎ IsHindered result
+  malformed_body (Ok m) a result h = absurd a
+  malformed_body (Err fault) (inl is) result h = inl (h ∙ ap (λ f. Err (fault_of f)) is)
+  malformed_body (Err fault) (inr (inl is)) result h = inl (h ∙ ap (λ f. Err (fault_of f)) is)
+  malformed_body (Err fault) (inr (inr s)) result h = inr (hinders fault s result h)
 
   -- a head that is refused makes no response
   refused_head : (fault : ReadFault) → IsHeadFault fault → (r : Result Message ReadFault) → heads.Answers fault r → (result : Result Answer ExchangeFault) → ComesOf request r result
@@ -271,6 +278,12 @@ module _ (request : Request) where
   refused_head faults.OutOfMemory k r a result h = absurd k
   refused_head faults.TurnsExhausted k r a result h = absurd k
 
+  -- a head that is refused is refused by a fault of heads
+  fault_of_head : (room : ℕ) (bytes : List ℕ) (fault : ReadFault) → AfterInterims room (λ room bytes. IsRefusedHead response_form bytes fault) bytes → IsHeadFault fault
+  fault_of_head zero bytes fault x = response_laws.judged x.0 fault x.2
+  fault_of_head (suc room) bytes fault (inl x) = response_laws.judged x.0 fault x.2
+  fault_of_head (suc room) bytes fault (inr x) = fault_of_head room x.1 fault x.4
+
   -- whatever is at the front
   pub exchanges_known : (old new : Reading) (r : Result Message ReadFault) → HasRead old new r → (result : Result Answer ExchangeFault) → ComesOf request r result
       → ExchangesKnown request old.remaining new.remaining result
@@ -283,9 +296,11 @@ module _ (request : Request) where
         at_front old.remaining new.remaining r read.found result h bytes rest so.message at so.is_message (result ≡ Err (NoAnswer WrongShape)) (comes_wrong_shape so.message so.says result);
     without = λ bytes rest at none. without old.remaining new.remaining r read.found result h (without_stops result none) bytes rest at;
     part = λ bytes at part. meets faults.EndedEarly r (read.ended bytes at part) result h;
-    refused_head = λ front rest head fault at is judged. refused_head fault (response_laws.judged head fault judged) r (read.refused_head front rest head fault at is judged) result h;
-    long = λ bytes rest at long. meets faults.HeadTooLong r (read.long bytes rest at long) result h;
-    malformed = λ bytes rest at within never. malformed (bytes ++ rest) r (read.malformed bytes rest at within never) result h;
+    refused_head = λ fault front. refused_head fault (fault_of_head interim_limit front.0 fault front.3) r (read.refused_head fault front) result h;
+    long = λ front. meets faults.HeadTooLong r (read.long front) result h;
+    malformed = λ front. malformed (front.0 ++ front.1) r (read.malformed front.0 front.1 front.2 front.3) result h;
+    malformed_body = λ front. malformed_body r (read.malformed_body front) result h;
+    interims = λ front. meets faults.Malformed r (read.interims front) result h;
   }
 
   -- if nothing was sent or read
@@ -296,7 +311,9 @@ module _ (request : Request) where
     wrong_shape = λ bytes rest at so. inr h;
     without = λ bytes rest at none. absurd (hindered_goes_on result h (without_stops result none));
     part = λ bytes at part. inr h;
-    refused_head = λ front rest head fault at is judged. inr h;
-    long = λ bytes rest at long. inr h;
-    malformed = λ bytes rest at within never. inr h;
+    refused_head = λ fault front. inr h;
+    long = λ front. inr h;
+    malformed = λ front. inr h;
+    malformed_body = λ front. inr h;
+    interims = λ front. inr h;
   }

@@ -7,12 +7,12 @@ use Rattle.scim_message.specs.declared.messages.Answer.{Answer}
 use Rattle.scim_message.specs.declared.messages.Request.{Request}
 use Rattle.http_text.specs.declared.fault.ReadFault.{ReadFault}
 use Rattle.http_text.specs.declared.fault.ReadFault.TheVariants as faults
+use Rattle.http_text.specs.Chunks.{NeverEnds}
 use Rattle.http_text.specs.Counts.{Reading, Writing, count_up, CountsTurns}
-use Rattle.http_text.specs.Message.{Head, Message, head_limit}
-use Rattle.http_text.specs.Judging.{judge_response}
-use Rattle.http_text.specs.Forms.{response_form, IsResponseHead}
-use Rattle.http_text.specs.Heads.{EndsReading, NeverHas, IsPartOfHead, IsPartOfBody, IsLongPart, HasLongSection}
-use Rattle.http_text.specs.Responses.{TakesResponse, TakesRefusedResponse, FindsResponse, FindsRefusedResponse, FindsResponseEnd, FindsLongResponse, FindsMalformedResponse, IsNoResponse}
+use Rattle.http_text.specs.Message.{Message, head_limit}
+use Rattle.http_text.specs.Forms.{response_form, IsInterim, AfterInterims, interim_limit}
+use Rattle.http_text.specs.Heads.{EndsReading, IsRefusedHead, NeverHas, IsLongPart, HasLongSection}
+use Rattle.http_text.specs.Responses.{TakesResponse, TakesRefusedResponse, FindsResponse, FindsRefusedResponse, FindsResponseEnd, FindsLongResponse, FindsMalformedResponse, FindsMalformedBody, FindsInterims, HasFront, HasBehind, IsPartOfOne, IsNoResponse}
 use Rattle.http_text.specs.Sending.{IsLost, EndsSending}
 use Rattle.scim_client.specs.declared.answers.AnswerFault.TheVariants.{NotOneResponse, NotJson, WrongShape}
 use Rattle.scim_client.specs.declared.answers.AnswerFault.TheVariants as answers
@@ -127,19 +127,21 @@ pub record ExchangesKnown (request : Request) (remaining left : Option (List ℕ
   -- no response comes only if there is none at the front
   pub without : (bytes rest : List ℕ) → remaining ≡ Some (bytes ++ rest) → IsWithout result → IsNoResponse bytes
   -- only a part of a response
-  pub part : (bytes : List ℕ) → remaining ≡ Some bytes → IsPartOfHead response_form bytes
-      ⊎ IsPartOfBody response_form bytes
+  pub part : (bytes : List ℕ) → remaining ≡ Some bytes
+      → AfterInterims interim_limit (λ room part. IsPartOfOne part) bytes
       → (result ≡ Err EndedEarly) ⊎ IsHindered result
   -- a refused head, a head beyond a limit, and bytes that no bytes complete to a head
-  pub refused_head : (front rest : List ℕ) (head : Head) (fault : ReadFault)
-      → remaining ≡ Some (front ++ rest) → IsResponseHead front head
-      → judge_response head ≡ Err fault
+  pub refused_head : (fault : ReadFault)
+      → HasFront (λ room bytes. IsRefusedHead response_form bytes fault) remaining
       → (result ≡ Err (NoAnswer NotOneResponse)) ⊎ IsHindered result
-  pub long : (bytes rest : List ℕ) → remaining ≡ Some (bytes ++ rest) → IsLongPart response_form bytes
-      ⊎ HasLongSection response_form bytes
+  pub long : HasFront (λ room bytes. IsLongPart response_form bytes ⊎ HasLongSection response_form bytes) remaining
       → (result ≡ Err (NoAnswer NotOneResponse)) ⊎ IsHindered result
-  pub malformed : (bytes rest : List ℕ) → remaining ≡ Some (bytes ++ rest) → length bytes ≤ head_limit
-      → NeverHas response_form bytes
+  pub malformed : HasFront (λ room bytes. (length bytes ≤ head_limit) × NeverHas response_form bytes) remaining
+      → (result ≡ Err (NoAnswer NotOneResponse)) ⊎ IsHindered result
+  -- bytes that no bytes complete to a body in chunks, and an interim response for which there is no room
+  pub malformed_body : HasFront (λ room bytes. (behind : List ℕ) × HasBehind bytes behind × NeverEnds behind) remaining
+      → (result ≡ Err (NoAnswer NotOneResponse)) ⊎ IsHindered result
+  pub interims : HasFront (λ room bytes. (room ≡ 0) × IsInterim bytes) remaining
       → (result ≡ Err (NoAnswer NotOneResponse)) ⊎ IsHindered result
 
 -- ---- the two halves of an exchange
@@ -179,6 +181,8 @@ pub record HasRead (old new : Reading) (r : Result Message ReadFault) : Type 0 w
   pub ended : FindsResponseEnd old.remaining r
   pub long : FindsLongResponse old.remaining r
   pub malformed : FindsMalformedResponse old.remaining r
+  pub malformed_body : FindsMalformedBody old.remaining r
+  pub interims : FindsInterims old.remaining r
   pub counts : CountsTurns old.calls new.calls
   pub clean : OnOk r (new.failures ≡ old.failures)
   pub fault : IfErr r (EndsReading old new)

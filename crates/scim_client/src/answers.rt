@@ -14,8 +14,8 @@ use std::{error, fmt};
 /// Why bytes aren't an answer. Its text is its code.
 #[derive(Clone, Copy, Debug, PartialEq, Eq)]
 pub enum AnswerFault {
-    /// The bytes aren't exactly one whole response: only a part, more than one, without a readable length,
-    /// with a transfer coding, or beyond a limit.
+    /// The bytes aren't exactly one whole response: only a part, more than one, without a readable length and not in
+    /// chunks, with another transfer coding, or beyond a limit.
     NotOneResponse,
     /// The body isn't JSON in UTF-8. This is checked before the status.
     NotJson,

@@ -1,5 +1,5 @@
 -- The text of an answer is a response of the grammar.
-use Rattle.std.proofs.Common.{◌≡◌, ℕ, ◌+◌, ◌/◌, ◌%◌, ◌^◌, ◌<◌, ◌≤◌, Bool, true, false, cond, List, [], ◌∷◌, ◌++◌, ◌&&◌, length, Option, Some, None, Result, Ok, refl, ap, ◌∙◌, arith, inl, inr, nat_lt}
+use Rattle.std.proofs.Common.{◌≡◌, ℕ, ◌+◌, ◌/◌, ◌%◌, ◌^◌, ◌<◌, ◌≤◌, Bool, true, false, cond, List, [], ◌∷◌, ◌++◌, ◌&&◌, not, length, Option, Some, None, Result, Ok, refl, ap, ◌∙◌, arith, inl, inr, nat_lt}
 use Rattle.std.specs.Prelude.{All, IfSome, ◌==◌, nat_le, codes, option_to_list}
 use Rattle.std.specs.Char.{is_ascii_digit}
 use Rattle.std.specs.Fmt.{decimal}
@@ -24,11 +24,12 @@ use Rattle.scim_message.specs.Bodies.{body_text}
 use Rattle.http_text.specs.declared.fault.ReadFault.{ReadFault}
 use Rattle.http_text.specs.declared.fault.ReadFault.TheVariants.{Malformed}
 use Rattle.http_text.specs.Message.{status_line, NamedValue, values, Length, stated, length_in, is_length, body_length, head_limit, field_limit, response_body_limit}
-use Rattle.http_text.specs.Judging.{◌>>=◌, refused_where, readable_length, is_any, response_length}
+use Rattle.http_text.specs.Judging.{◌>>=◌, refused_where, readable_length, is_any, is_chunked_alone, is_bodiless, is_no_status, response_length}
 use Rattle.http_text.specs.Forms.{IsResponseMessage}
 use Rattle.http_text.specs.Response.{line_with, response_text, written_lines}
 use Rattle.http_text.specs.Texts.{IsFieldLine}
 use Rattle.http_text.proofs.TextLemmas.{IsFieldLine-visible}
+use Rattle.http_text.proofs.InterimLemmas.{stated_is_response}
 use Rattle.http_text.proofs.TextLemmas as texts
 use Rattle.scim_http.specs.Replies.{lines_of, stated_type, value_if}
 use Rattle.scim_http.specs.Laws.{AnswersAreResponses}
@@ -205,22 +206,25 @@ stated_decimal n small =
     let number = decimal_is_IsNumeral n (omega arith) in
     length_where (decimal n) n (is_length (decimal n)) refl (decimal_is_length n small) number.1
 
-abbrev judged : Length → Bool → Bool → Bool → Result ℕ ReadFault
-judged l a b c = refused_where a Malformed >>= (λ _. refused_where b Malformed >>= (λ _. readable_length l >>= (λ length_. response_length c length_)))
+abbrev judged : Length → Bool → Bool → List (List ℕ) → Result ℕ ReadFault
+judged l a b found =
+    refused_where a Malformed >>= (λ _. refused_where (is_any found && not (is_chunked_alone found)) Malformed
+    >>= (λ _. readable_length l >>= (λ length_. response_length b (is_chunked_alone found) length_)))
 
 -- a head with a stated length within the limit and an ordinary status is followed by that length
-accepted : (n status : ℕ) → n ≤ response_body_limit → 100 ≤ status → (status == 304) ≡ false
-    → (l : Length) → l ≡ stated n → (coded : Bool) → coded ≡ false → judged l (nat_lt status 100) coded (status == 304) ≡ Ok n
-accepted n status small high other l is coded none =
-    let test : nat_lt status 100 ≡ false = grind (arith, nat_tests) in
+accepted : (n status : ℕ) → n ≤ response_body_limit → 200 ≤ status → is_bodiless status ≡ false
+    → (l : Length) → l ≡ stated n → (found : List (List ℕ)) → found ≡ [] → judged l (is_no_status status) (is_bodiless status) found ≡ Ok n
+accepted n status small high other l is found none =
+    let test : is_no_status status ≡ false = grind (arith, nat_tests) in
     let fits : nat_lt response_body_limit n ≡ false = grind (arith, nat_tests) in
     rw (test, none, is, other, fits) refl
 
-no_field : (found : List (List ℕ)) → found ≡ [] → is_any found ≡ false
-no_field found e = ap is_any e
+no_chunks : (bodiless : Bool) (found : List (List ℕ)) → found ≡ [] → (not bodiless && is_chunked_alone found) ≡ false
+no_chunks true found none = refl
+no_chunks false found none = ap is_chunked_alone none
 
 -- an answer with a body
-bodied : (status : ℕ) (location tag : Option (List ℕ)) (created : Bool) (body : List ℕ) → 100 ≤ status → status < 1000 → (status == 304) ≡ false
+bodied : (status : ℕ) (location tag : Option (List ℕ)) (created : Bool) (body : List ℕ) → 200 ≤ status → status < 1000 → is_bodiless status ≡ false
     → IfSome location IsVisible → IfSome tag IsVisible → length body ≤ response_body_limit
     → length (response_text status (written_lines (lines_of (Some (decimal (length body))) location tag created)) body) ≤ head_limit + length body
     → IsResponseMessage (response_text status (written_lines (lines_of (Some (decimal (length body))) location tag created)) body)
@@ -231,10 +235,12 @@ bodied status location tag created body low high other where_ version small size
     let lines = written_lines (lines_of long location tag created) in
     let digits = weaker is_ascii_digit digit_visible (decimal n) (decimal_is_digits n (omega arith)) in
     let l : length_in (values (codes "content-length") lines) ≡ stated n = ap length_in (its_length long location tag created) ∙ stated_decimal n small in
-    let states : n ≡ cond (status == 304) 0 (body_length (length_in (values (codes "content-length") lines))) = rw (other, l) refl in (
-      texts.texts_are_read.response status lines body (low, high) (lines_are long location tag created digits where_ version) size (few_lines long location tag created) states,
-      (n, accepted n status small low other (length_in (values (codes "content-length") lines)) l (is_any (values (codes "transfer-encoding") lines)) (no_field _ (no_coding long location tag created))),
-    )
+    let states : n ≡ cond (is_bodiless status) 0 (body_length (length_in (values (codes "content-length") lines))) = rw (other, l) refl in
+    let coding = no_coding long location tag created in
+    let last : nat_lt status 200 ≡ false = grind (arith, nat_tests) in
+    stated_is_response _ _ (no_chunks (is_bodiless status) (values (codes "transfer-encoding") lines) coding) last
+    (texts.texts_are_read.response status lines body (omega (arith, low), high) (lines_are long location tag created digits where_ version) size (few_lines long location tag created) states)
+    (n, accepted n status small low other (length_in (values (codes "content-length") lines)) l (values (codes "transfer-encoding") lines) coding)
 
 -- 304 has none
 bodiless : (location tag : Option (List ℕ)) → IfSome location IsVisible → IfSome tag IsVisible
@@ -244,16 +250,16 @@ bodiless : (location tag : Option (List ℕ)) → IfSome location IsVisible → 
 bodiless location tag where_ version size =
     let lines = written_lines (lines_of None location tag false) in
     let found = its_length None location tag false in
-    let coded = no_coding None location tag false in (
-      texts.texts_are_read.response 304 lines [] (omega arith, omega arith) (lines_are None location tag false tt where_ version) size (few_lines None location tag false) refl,
-      (0, λ i. judged (length_in (found i)) (nat_lt 304 100) (is_any (coded i)) (304 == 304)),
-    )
+    let coding = no_coding None location tag false in
+    stated_is_response _ _ (no_chunks (is_bodiless 304) (values (codes "transfer-encoding") lines) coding) refl
+    (texts.texts_are_read.response 304 lines [] (omega arith, omega arith) (lines_are None location tag false tt where_ version) size (few_lines None location tag false) refl)
+    (0, λ i. judged (length_in (found i)) (is_no_status 304) (is_bodiless 304) (coding i))
 
 shown_tag_visible : (version : Option (List ℕ)) → IfSome version IsEntityTag → IfSome version IsVisible
 shown_tag_visible None is = tt
 shown_tag_visible (Some tag) is = tag_is_visible tag is
 
-status_is_other : (status : ℕ) → 400 ≤ status → (status == 304) ≡ false
+status_is_other : (status : ℕ) → 400 ≤ status → is_bodiless status ≡ false
 status_is_other status low = grind (arith, nat_tests)
 
 pub answers_are_responses : AnswersAreResponses
