@@ -42,18 +42,18 @@ seen-cond : (b : Bool) (new old : Known) (o here : Option Known) → (b ≡ true
 seen-cond true new old o here same is alike = ap Some alike ∙ sym (ap (option_map entry_of) (same refl ∙ is))
 seen-cond false new old o here same is alike = refl
 
-seen-entry : (book : BookMap) (name : RecordName) (known : Known) (seen : Seen) → get book name ≡ Some known → (q : RecordName)
-    → option_map entry_of (get (changed (seeing seen) book name) q) ≡ option_map entry_of (get book q)
-seen-entry book name known seen there q =
-    ap (λ (b : BookMap). option_map entry_of (get b q)) (changed-is (seeing seen) book name known there)
-    ∙ ap (option_map entry_of) (get-insert names_total book name (seeing seen known) q)
-    ∙ seen-cond (is_eq (name_cmp q name)) (seeing seen known) known (get book q) (get book name) (λ same. ap (get book) (name_from_test q name (sym (tied q name) ∙ same))) there refl
+seen-entry : (book : BookMap) (name : RecordName) (known : Known) (seen : Seen) (doubt : Bool) → get book name ≡ Some known → (q : RecordName)
+    → option_map entry_of (get (changed (seeing seen doubt) book name) q) ≡ option_map entry_of (get book q)
+seen-entry book name known seen doubt there q =
+    ap (λ (b : BookMap). option_map entry_of (get b q)) (changed-is (seeing seen doubt) book name known there)
+    ∙ ap (option_map entry_of) (get-insert names_total book name (seeing seen doubt known) q)
+    ∙ seen-cond (is_eq (name_cmp q name)) (seeing seen doubt known) known (get book q) (get book name) (λ same. ap (get book) (name_from_test q name (sym (tied q name) ∙ same))) there refl
 
-pub of-seen : (found : EntryMap) (book : BookMap) (name : RecordName) (known : Known) (seen : Seen) → get book name ≡ Some known → AreOf found (book_of book) (keys book)
-    → AreOf found (book_of (changed (seeing seen) book name)) (keys (changed (seeing seen) book name))
-of-seen found book name known seen there are = record {
-  same = λ q. are.same q ∙ sym (seen-entry book name known seen there q);
-  listed = are.listed ∙ sym (same-names (seeing seen) book name known there);
+pub of-seen : (found : EntryMap) (book : BookMap) (name : RecordName) (known : Known) (seen : Seen) (doubt : Bool) → get book name ≡ Some known → AreOf found (book_of book) (keys book)
+    → AreOf found (book_of (changed (seeing seen doubt) book name)) (keys (changed (seeing seen doubt) book name))
+of-seen found book name known seen doubt there are = record {
+  same = λ q. are.same q ∙ sym (seen-entry book name known seen doubt there q);
+  listed = are.listed ∙ sym (same-names (seeing seen doubt) book name known there);
 }
 
 -- ---- no row is new
@@ -78,7 +78,7 @@ of-none found book new rows is none are =
 module _ (book : BookMap) (request : Request) (answer : Answer) (name : RecordName) (n : News) (is : IsNoted book request answer name n) where
   news-of : (entries : EntryMap) → IsKept entries book → (m : News) → IsNewsOf is.known m → AreOf (entries_with entries name m) (book_of (changed (after_news m) book name)) (keys (changed (after_news m) book name))
   news-of entries kept (news.Lasting confirmed id seen learnt) keeps = are-of _ _ (kept-learnt entries book name is.known kept is.there confirmed id seen keeps)
-  news-of entries kept (news.Passing seen learnt) keeps = are-of _ _ (kept-seen entries book name is.known kept is.there seen)
+  news-of entries kept (news.Passing seen doubt learnt) keeps = are-of _ _ (kept-seen entries book name is.known kept is.there seen doubt)
   news-of entries kept news.Nothing keeps =
       let B : BookMap → Type 0 = λ b. AreOf entries (book_of b) (keys b) in
       subst B (same-book book name is.known is.there) (are-of entries book kept)

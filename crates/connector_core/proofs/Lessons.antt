@@ -1,13 +1,13 @@
 -- What is learnt: what the journal is to keep of it, and what the book and the journal are afterwards.
-use Rattle.std.proofs.Common.{◌≡◌, ℕ, cond, List, Bool, true, false, not, Option, Some, None, Result, Ok, Err, IfOk, IfErr, OnOk, OnErr, refl, ap, sym, subst, ◌∙◌, inl, inr}
+use Rattle.std.proofs.Common.{◌≡◌, ◌≢◌, ◌⊎◌, ℕ, cond, List, Bool, true, false, not, Option, Some, None, IsSome, Result, Ok, Err, IfOk, IfErr, OnOk, OnErr, refl, ap, sym, subst, ◌∙◌, inl, inr}
 use Rattle.std.proofs.lemmas.Bool.{cases_Bool}
-use Rattle.std.proofs.lemmas.Slice.Eq.{bytes_eq-Decides}
 use Rattle.std.specs.FinMap.{get, insert, keys, get-insert, same_map}
-use Rattle.std.specs.Option.{is_some, option_map}
+use Rattle.std.specs.Option.{option_map}
 use Rattle.std.specs.Ordering.{is_eq, ordering_reverse}
 use Rattle.std.specs.declared.cmp.Ordering.{Ordering}
 use Rattle.std.specs.declared.cmp.Ordering.TheVariants.{Less, Equal, Greater}
 use Rattle.scim_key.proofs.RevisionLaws.{irreflexive, none_before, later_above_first, later_above_second, later_is_one, total, transitive_up_to}
+use Rattle.scim_key.proofs.RecordLaws.{same as same_record}
 use Rattle.scim_key.specs.Outcome.{◌>>=◌}
 use Rattle.scim_key.specs.RecordOrder.{names_total, tied}
 use Rattle.scim_key.specs.Records.{name_cmp}
@@ -20,16 +20,16 @@ use Rattle.journal_core.proofs.Trees.{name_from_test, names_same}
 use Rattle.journal_core.specs.Entries.{CanPutLearnt, EntryMap, entry_learnt, learnt_at, with_learnt}
 use Rattle.journal_core.specs.declared.entries.Entry.{Entry}
 use Rattle.connector_core.proofs.Keeping.{kept-put, maps_are_books, names-put}
-use Rattle.connector_core.specs.Book.{Book, learning, put, seeing}
-use Rattle.connector_core.specs.Learning.{Finding, Learning, Lesson, Sight, after_learning, finding, fits_id, learn, lesson, noted, or_fault, sighted, subject}
+use Rattle.connector_core.specs.Book.{Book, doubted, doubting, learning, put, seeing}
+use Rattle.connector_core.specs.History.{same_name}
+use Rattle.connector_core.specs.Learning.{Finding, Learning, Lesson, Sight, after_learning, finding, learn, lesson, noted, or_fault, seen_at, sighted, subject}
 use Rattle.connector_core.specs.Maps.{BookMap, GivesUnless, book_of, changed, changed_at}
-use Rattle.connector_core.specs.Noting.{IsNewsAt, IsNewsOf, IsNoted, IsNotNoted, IsOfJournal, IsPassing, IsToBeKept, KeepsEntries, MayStandFor, Note, after_news, entries_with, learnt_of, lesson_of, news_learnt, note, noted_entries, noted_in}
+use Rattle.connector_core.specs.Noting.{IsFit, IsNewsAt, IsNewsOf, IsNoted, IsNotNoted, IsOfJournal, IsPassing, IsToBeKept, KeepsEntries, MayStandFor, Note, after_news, entries_with, learnt_of, lesson_of, news_learnt, note, noted_entries, noted_in}
 use Rattle.connector_core.specs.State.{IsKept, entry_of}
 use Rattle.connector_core.specs.declared.fitting.News.{News}
 use Rattle.connector_core.specs.declared.fitting.News.TheVariants.{Lasting, Passing, Nothing}
 use Rattle.connector_core.specs.declared.knowledge.Known.{Known}
 use Rattle.connector_core.specs.declared.knowledge.Seen.{Seen}
-use Rattle.connector_core.specs.declared.knowledge.Seen.TheVariants.{At}
 use Rattle.connector_core.specs.declared.learning.LearnFault.{LearnFault}
 use Rattle.connector_core.specs.declared.learning.LearnFault.TheVariants.{Unfit, Unversioned, Refused, NoSuchRecord, Store, Memory}
 use Rattle.connector_core.specs.declared.learning.Learnt.{Learnt}
@@ -65,19 +65,25 @@ later_stays a b not = elim (later_is_one a b) [
   | inr second ↦ second ∙ total b a not (subst (λ r. a ≼ r) second (later_above_first a b))
 ]
 
-pub keep-new : (known : Known) (revision : RevisionValue) → IsRevision revision → revision ≼ row_revision known.wanted → known.id ≡ None → IsToBeKept known (later known.confirmed revision)
-keep-new known revision lawful within new = record {
+keep-new : (known : Known) (revision : RevisionValue) (id : List ℕ) → IsRevision revision → revision ≼ row_revision known.wanted → known.id ≢ Some id → IsToBeKept known (later known.confirmed revision) id
+keep-new known revision id lawful within new = record {
   confirms = confirms-later known.confirmed revision lawful;
   within = λ was. within-later known.confirmed revision (row_revision known.wanted) within was;
   changes = inl new;
 }
 
-pub keep-higher : (known : Known) (revision : RevisionValue) → IsRevision revision → revision ≼ row_revision known.wanted → known.confirmed ≺ revision → IsToBeKept known (later known.confirmed revision)
-keep-higher known revision lawful within higher = record {
+keep-higher : (known : Known) (revision : RevisionValue) (id : List ℕ) → IsRevision revision → revision ≼ row_revision known.wanted → known.confirmed ≺ revision → IsToBeKept known (later known.confirmed revision) id
+keep-higher known revision id lawful within higher = record {
   confirms = confirms-later known.confirmed revision lawful;
   within = λ was. within-later known.confirmed revision (row_revision known.wanted) within was;
   changes = inr (before-up-to known.confirmed revision (later known.confirmed revision) higher (later_above_second known.confirmed revision));
 }
+
+-- a resource that fits, with another id or a higher revision, is to be kept
+pub to-be-kept : (known : Known) (sight : Sight) → IsFit known sight → (known.id ≢ Some sight.id) ⊎ (known.confirmed ≺ sight.revision)
+    → IsToBeKept known (later known.confirmed sight.revision) sight.id
+to-be-kept known sight fits (inl other) = keep-new known sight.revision sight.id fits.lawful fits.within other
+to-be-kept known sight fits (inr higher) = keep-higher known sight.revision sight.id fits.lawful fits.within higher
 
 -- ---- a record of the book changes
 
@@ -102,8 +108,8 @@ module _ (entries : EntryMap) (book : BookMap) (name : RecordName) (known : Know
   entry-there : get entries name ≡ Some (entry_of known)
   entry-there = is.same name ∙ ap (option_map entry_of) there
 
-  pub can-learn : (confirmed : RevisionValue) → IsToBeKept known confirmed → CanPutLearnt entries name confirmed
-  can-learn confirmed keeps = record {
+  pub can-learn : (confirmed : RevisionValue) (id : List ℕ) → IsToBeKept known confirmed id → CanPutLearnt entries name confirmed
+  can-learn confirmed id keeps = record {
     entry = entry_of known;
     there = entry-there;
     confirms = keeps.confirms (is.within name known there).known;
@@ -113,7 +119,7 @@ module _ (entries : EntryMap) (book : BookMap) (name : RecordName) (known : Know
   pub entries-learnt : (confirmed : RevisionValue) (id : List ℕ) (seen : Seen) → with_learnt entries name confirmed id ≡ insert entries name (entry_of (learning confirmed id seen known))
   entries-learnt confirmed id seen = ap (learnt_at entries name confirmed id) entry-there
 
-  pub kept-learnt : (confirmed : RevisionValue) (id : List ℕ) (seen : Seen) → IsToBeKept known confirmed
+  pub kept-learnt : (confirmed : RevisionValue) (id : List ℕ) (seen : Seen) → IsToBeKept known confirmed id
       → IsKept (with_learnt entries name confirmed id) (changed (learning confirmed id seen) book name)
   kept-learnt confirmed id seen keeps =
       let K : EntryMap → Type 0 = λ es. IsKept es (changed (learning confirmed id seen) book name) in
@@ -122,39 +128,34 @@ module _ (entries : EntryMap) (book : BookMap) (name : RecordName) (known : Know
       (kept-put entries book name (entry_learnt confirmed id (entry_of known)) (learning confirmed id seen known) is refl
       (record { known = inr (keeps.confirms (is.within name known there).known); within = keeps.within (is.within name known there).within })))
 
-  pub entries-seen : (seen : Seen) → entries ≡ insert entries name (entry_of (seeing seen known))
-  entries-seen seen = sym (entry-again entries name (entry_of known) entry-there)
+  pub entries-seen : (seen : Seen) (doubt : Bool) → entries ≡ insert entries name (entry_of (seeing seen doubt known))
+  entries-seen seen doubt = sym (entry-again entries name (entry_of known) entry-there)
 
-  pub kept-seen : (seen : Seen) → IsKept entries (changed (seeing seen) book name)
-  kept-seen seen =
-      let K : EntryMap → Type 0 = λ es. IsKept es (changed (seeing seen) book name) in
+  pub kept-seen : (seen : Seen) (doubt : Bool) → IsKept entries (changed (seeing seen doubt) book name)
+  kept-seen seen doubt =
+      let K : EntryMap → Type 0 = λ es. IsKept es (changed (seeing seen doubt) book name) in
       let B : BookMap → Type 0 = λ b. IsKept (insert entries name (entry_of known)) b in
-      subst K (entry-again entries name (entry_of known) entry-there) (subst B (sym (ap (changed_at (seeing seen) book name) there))
-      (kept-put entries book name (entry_of known) (seeing seen known) is refl (is.within name known there)))
+      subst K (entry-again entries name (entry_of known) entry-there) (subst B (sym (ap (changed_at (seeing seen doubt) book name) there))
+      (kept-put entries book name (entry_of known) (seeing seen doubt known) is refl (is.within name known there)))
+
+there-is : (o : Option Known) → IsSome o → (known : Known) × (o ≡ Some known)
+there-is None there = absurd (cc)
+there-is (Some known) there = (known, refl)
+
+pub in-book : (book : BookMap) (name : RecordName) → IsSome (get book name) → (known : Known) × (get book name ≡ Some known)
+in-book book name there = there-is (get book name) there
 
 pub news-at : (o : Option Known) (news : News) → IsNewsAt o news → (known : Known) × (o ≡ Some known) × IsNewsOf known news
 news-at None news is = absurd is
 news-at (Some known) news is = (known, refl, is)
 
-pub no-id : (o : Option (List ℕ)) (none : Bool) → is_some o ≡ not none → none ≡ true → o ≡ None
-no-id None none is e = refl
-no-id (Some id) true is e = absurd (cc)
-no-id (Some id) false is e = absurd (cc)
-
--- the known id is that of a resource that fits
-known-id : (o : Option (List ℕ)) (id : List ℕ) (none : Bool) → fits_id o id ≡ true → is_some o ≡ not none → none ≡ false → o ≡ Some id
-known-id None id true fits is e = absurd (cc)
-known-id None id false fits is e = absurd (cc)
-known-id (Some k) id none fits is e = ap Some ((bytes_eq-Decides k id).0 fits)
-
 -- a resource that was seen, of no higher revision and with the known id, changes only what was seen
-pub sighted-again : (known : Known) (sight : Sight) (learnt : Learnt) (none : Bool) → before known.confirmed sight.revision ≡ false → fits_id known.id sight.id ≡ true → is_some known.id ≡ not none → none ≡ false
-    → learnt ≡ learnts.Seen → lesson_of known (Passing (At sight.tag sight.revision) learnt) ≡ sighted known sight
-sighted-again known sight learnt none not_higher fits is some said =
+pub sighted-again : (known : Known) (sight : Sight) (learnt : Learnt) → before known.confirmed sight.revision ≡ false → known.id ≡ Some sight.id
+    → learnt ≡ learnts.Seen → lesson_of known (Passing (seen_at sight) false learnt) ≡ sighted known sight
+sighted-again known sight learnt not_higher id said =
     let stays : known.confirmed ≡ later known.confirmed sight.revision = sym (later_stays known.confirmed sight.revision not_higher) in
-    let id : known.id ≡ Some sight.id = known-id known.id sight.id none fits is some in
     let told : learnt ≡ cond (before known.confirmed sight.revision) (learnts.Confirmed sight.revision) learnts.Seen = said ∙ ap (λ (b : Bool). cond b (learnts.Confirmed sight.revision) learnts.Seen) (sym not_higher) in
-    λ i. record { known = record known { confirmed = stays i; id = id i; seen = At sight.tag sight.revision }; learnt = told i }
+    λ i. record { known = record known { confirmed = stays i; id = id i; seen = seen_at sight; is_doubted = false }; learnt = told i }
 
 -- ---- a note is what is learnt
 
@@ -168,7 +169,7 @@ module _ (book : Book) (request : Request) (answer : Answer) where
   note-lesson name l = Ok (record { name = name; lesson = l })
 
   abbrev note-said : RecordName → Known → Finding → Result Note LearnFault
-  note-said name known said = lesson name known said >>= note-lesson name
+  note-said name known said = lesson book name known said >>= note-lesson name
 
   abbrev note-known : RecordName → Known → Result Note LearnFault
   note-known name known = finding request answer >>= note-said name known
@@ -180,7 +181,7 @@ module _ (book : Book) (request : Request) (answer : Answer) where
   learn-lesson name l = Ok (noted book name l)
 
   abbrev learn-said : RecordName → Known → Finding → Result Learning LearnFault
-  learn-said name known said = lesson name known said >>= learn-lesson name
+  learn-said name known said = lesson book name known said >>= learn-lesson name
 
   abbrev learn-known : RecordName → Known → Result Learning LearnFault
   learn-known name known = finding request answer >>= learn-said name known
@@ -189,7 +190,7 @@ module _ (book : Book) (request : Request) (answer : Answer) where
   learn-name name = or_fault NoSuchRecord (book name) >>= learn-known name
 
   said-same : (name : RecordName) (known : Known) (said : Finding) → learn-said name known said ≡ noted_in book (note-said name known said)
-  said-same name known said = bind-as (noted_in book) (lesson name known said) (note-lesson name) (learn-lesson name) (λ l. refl) (λ fault. refl)
+  said-same name known said = bind-as (noted_in book) (lesson book name known said) (note-lesson name) (learn-lesson name) (λ l. refl) (λ fault. refl)
 
   known-same : (name : RecordName) (known : Known) → learn-known name known ≡ noted_in book (note-known name known)
   known-same name known = bind-as (noted_in book) (finding request answer) (note-said name known) (learn-said name known) (said-same name known) (λ fault. refl)
@@ -221,14 +222,33 @@ pub same-names : (change : Known → Known) (book : BookMap) (name : RecordName)
 same-names change book name known there = ap keys (changed-is change book name known there) ∙ names-put book name (change known)
     ∙ sym (names-put book name known) ∙ ap keys (again book name known there)
 
-kept-id : (i : List ℕ) (o : Option (List ℕ)) → Some i ≡ o → o ≡ None → ⊥
-kept-id i None same none = cc
-kept-id i (Some id) same none = cc
+-- ---- a record is doubted
+
+doubted-cond : (b : Bool) (known : Known) (o here : Option Known) → (b ≡ true → o ≡ here) → here ≡ Some known
+    → cond b (Some (doubting known)) o ≡ cond b (option_map doubting o) o
+doubted-cond true known o here same is = sym (ap (option_map doubting) (same refl ∙ is))
+doubted-cond false known o here same is = refl
+
+none-cond : (b : Bool) (o here : Option Known) → (b ≡ true → o ≡ here) → here ≡ None → cond b (option_map doubting o) o ≡ o
+none-cond true o here same is = ap (option_map doubting) (same refl ∙ is) ∙ sym (same refl ∙ is)
+none-cond false o here same is = refl
+
+pub book-doubted : (book : BookMap) (name : RecordName) (known : Known) → get book name ≡ Some known → book_of (changed doubting book name) ≡ doubted (book_of book) name
+book-doubted book name known there =
+    let each : (other : RecordName) → put (book_of book) name (doubting known) other ≡ doubted (book_of book) name other =
+    λ other. doubted-cond (same_name name other) known (get book other) (get book name) (λ same. ap (get book) (sym ((same_record name other).0 same))) there in
+    ap book_of (changed-is doubting book name known there) ∙ (maps_are_books book name (doubting known)).book ∙ (λ i other. each other i)
+
+pub none-doubted : (book : BookMap) (name : RecordName) → get book name ≡ None → book_of book ≡ doubted (book_of book) name
+none-doubted book name none =
+    let each : (other : RecordName) → doubted (book_of book) name other ≡ get book other =
+    λ other. none-cond (same_name name other) (get book other) (get book name) (λ same. ap (get book) (sym ((same_record name other).0 same))) none in
+    λ i other. sym (each other) i
 
 -- what the journal is to keep is no entry that was kept
-changes-entry : (known : Known) (confirmed : RevisionValue) (id : List ℕ) (seen : Seen) → IsToBeKept known confirmed → entry_of (learning confirmed id seen known) ≡ entry_of known → ⊥
+changes-entry : (known : Known) (confirmed : RevisionValue) (id : List ℕ) (seen : Seen) → IsToBeKept known confirmed id → entry_of (learning confirmed id seen known) ≡ entry_of known → ⊥
 changes-entry known confirmed id seen keeps same = elim keeps.changes [
-  | inl none ↦ kept-id id known.id (ap (λ (e : Entry). e.id) same) none
+  | inl other ↦ other (sym (ap (λ (e : Entry). e.id) same))
   | inr higher ↦ irreflexive confirmed (subst (λ r. r ≺ confirmed) (sym (ap (λ (e : Entry). e.confirmed) same)) higher)
 ]
 
@@ -266,7 +286,7 @@ module _ (book : BookMap) (request : Request) (answer : Answer) (name : RecordNa
 
   with-news : (entries : EntryMap) → IsKept entries book → (n : News) → entries_with entries name n ≡ insert entries name (entry_of (after_news n is.known))
   with-news entries kept (Lasting confirmed id seen learnt) = entries-learnt entries book name is.known kept is.there confirmed id seen
-  with-news entries kept (Passing seen learnt) = entries-seen entries book name is.known kept is.there seen
+  with-news entries kept (Passing seen doubt learnt) = entries-seen entries book name is.known kept is.there seen doubt
   with-news entries kept Nothing = sym (entry-again entries name (entry_of is.known) (entry-there entries book name is.known kept is.there))
 
   pub entries-after : (entries : EntryMap) → IsKept entries book → entries_with entries name news ≡ noted_entries entries (note (book_of book) request answer)
@@ -274,7 +294,7 @@ module _ (book : BookMap) (request : Request) (answer : Answer) (name : RecordNa
 
   quiet-news : (n : News) (new : BookMap) (result : Result Learnt LearnFault) (before after : ℕ) → IsNewsOf is.known n → (IsPassing n → after ≡ before)
       → OnErr result (after ≡ before) → OnOk result (new ≡ changed (after_news n) book name) → KeepsEntries book new → after ≡ before
-  quiet-news (Passing seen learnt) new result before after keeps quiet err ok same = quiet tt
+  quiet-news (Passing seen doubt learnt) new result before after keeps quiet err ok same = quiet tt
   quiet-news Nothing new result before after keeps quiet err ok same = quiet tt
   quiet-news (Lasting confirmed id seen learnt) new (Err fault) before after keeps quiet err ok same = err
   quiet-news (Lasting confirmed id seen learnt) new (Ok l) before after keeps quiet err ok same =

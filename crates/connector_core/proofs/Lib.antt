@@ -4,7 +4,7 @@ pub mod BookLaws
 pub mod Keeping
 pub mod Leaving
 pub mod Lessons
-pub mod Located
+pub mod Replacing
 pub mod Offered
 pub mod Verdicts
 pub mod Writing

@@ -14,9 +14,9 @@ use Rattle.journal_core.proofs.Trees.{name_from_test, names_same}
 use Rattle.journal_core.specs.Entries.{EntryMap, CanPutRows, with_rows}
 use Rattle.connector_core.specs.declared.accepting.Verdict.{Verdict}
 use Rattle.connector_core.specs.declared.accepting.Verdict.TheVariants as verdict
-use Rattle.connector_core.specs.Book.{AllLocated, wanting_now}
+use Rattle.connector_core.specs.Book.{wanting_now}
 use Rattle.connector_core.specs.Changing.{accepted_entries, accepted_map, entries_all, if_new, judged, new_rows, taking, taking_all, verdicts}
-use Rattle.connector_core.specs.Maps.{BookMap, book_of, changed, changed_at}
+use Rattle.connector_core.specs.Maps.{BookMap, changed, changed_at}
 use Rattle.connector_core.specs.Offering.{AreOffered, all_back, row_back, taken_back}
 use Rattle.connector_core.specs.State.{IsKept}
 use Rattle.connector_core.specs.declared.changing.ChangeFault.{ChangeFault}
@@ -24,7 +24,6 @@ use Rattle.connector_core.specs.declared.knowledge.Known.{Known}
 use Rattle.connector_core.specs.declared.taking.Note.{Note}
 use Rattle.connector_core.specs.declared.offering.Offered.{Offered}
 use Rattle.connector_core.proofs.Keeping.{kept-row}
-use Rattle.connector_core.proofs.Located.{located-row}
 use Rattle.connector_core.proofs.Verdicts.{can-put, new-row, not-below}
 
 -- ---- what takes a row back
@@ -125,16 +124,6 @@ puts-all kept book [] = refl
 puts-all kept book (row ∷ rows) =
     sym (put-next kept row (new_rows (taking book row) rows) (judged book row)) ∙ puts-all (accepted_entries kept row (judged book row)) (taking book row) rows
 
-located-next : (book : BookMap) (row : Row) (v : Result Verdict ChangeFault) → AllLocated (book_of book) → AllLocated (book_of (accepted_map book row v))
-located-next book row (Ok verdict.New) all = located-row book row all
-located-next book row (Ok verdict.Known) all = all
-located-next book row (Ok verdict.Older) all = all
-located-next book row (Err fault) all = all
-
-pub located-all : (book : BookMap) (rows : List Row) → AllLocated (book_of book) → AllLocated (book_of (taking_all book rows))
-located-all book [] all = all
-located-all book (row ∷ rows) all = located-all (taking book row) rows (located-next book row (judged book row) all)
-
 -- ---- one write of the new rows
 
 pub nothing : (rows : List Row) → (length rows == 0) ≡ true → rows ≡ []
@@ -152,8 +141,3 @@ module _ (held : EntryMap) (old new : BookMap) (rows : List Row) (offered : Offe
   keeps-fresh put entries is done kept =
       let K : BookMap → Type 0 = λ b. IsKept (entries_all held old rows) b in
       subst (λ e. IsKept e new) (sym (done ∙ puts-fresh put is)) (subst K (sym are.taken) (kept-all held old rows kept))
-
-  pub located-fresh : AllLocated (book_of old) → AllLocated (book_of new)
-  located-fresh all =
-      let L : BookMap → Type 0 = λ b. AllLocated (book_of b) in
-      subst L (sym are.taken) (located-all old rows all)

@@ -10,17 +10,21 @@ use Rattle.connector_core.specs.Changing.{CountsChange, change_fault}
 use Rattle.connector_core.specs.declared.changing.ChangeFault.{ChangeFault}
 
 module _ {J : Type 0} (g : Ghosts J) where
-  pub refused : {T : Type 0} (s : J) (later : EntryMap) (fault : ChangeFault) → CountsChange (g.faults s) (g.faults s) fault → Writes {T = T} g CountsChange s s later (Err fault)
-  refused s later fault counts = record {
+  -- a fault that says nothing about the journal
+  pub refused-by : {T F : Type 0} (counts : ℕ → ℕ → F → Type 0) (s : J) (later : EntryMap) (fault : F) → counts (g.faults s) (g.faults s) fault → Writes {T = T} g counts s s later (Err fault)
+  refused-by counts s later fault counted = record {
     was = λ f. f;
     done = λ _. tt;
     same = λ _. refl;
     honest = λ h. h;
     stop = λ _ found is. inl is;
-    counted = counts;
+    counted = counted;
     written = omega arith;
     unwritten = refl;
   }
+
+  pub refused : {T : Type 0} (s : J) (later : EntryMap) (fault : ChangeFault) → CountsChange (g.faults s) (g.faults s) fault → Writes {T = T} g CountsChange s s later (Err fault)
+  refused s later fault counted = refused-by CountsChange s later fault counted
 
   pub unchanged : {T : Type 0} (s : J) (later : EntryMap) (said : T) → later ≡ g.entries s → Writes g CountsChange s s later (Ok said)
   unchanged s later said same = record {

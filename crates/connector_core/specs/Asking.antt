@@ -1,5 +1,5 @@
 -- What the connector asks for next for a record.
-use Rattle.std.specs.Prelude.{ℕ, pos, Bool, List, [], ◌∷◌, Option, Some, None, Result, Ok, Err, if◌then◌else◌}
+use Rattle.std.specs.Prelude.{ℕ, pos, Bool, false, not, ◌&&◌, List, [], ◌∷◌, Option, Some, None, Result, Ok, Err, if◌then◌else◌}
 use Rattle.std.specs.Option.{option_map}
 use Rattle.scim_key.specs.Revisions.{same_revision}
 use Rattle.scim_key.specs.declared.records.Kind.TheVariants as kinds
@@ -33,13 +33,11 @@ search_for (Group row) = Search kinds.Group (Some (name_filter DisplayName row.n
 abbrev pub replacement : (id : List ℕ) → (tag : List ℕ) → Content → Request
 replacement id tag content = Replace id content (Tags (tag ∷ [])) Always
 
--- by what was seen of the record and by its id (the last case doesn't occur: what a connector saw has a known id,
--- `AllLocated`)
-abbrev pub request_for : Seen → Option (List ℕ) → Row → Content → Request
-request_for Unknown id row content = search_for row
-request_for Absent id row content = Create content
-request_for (At tag revision) (Some id) row content = replacement id tag content
-request_for (At tag revision) None row content = search_for row
+-- by what was seen of the record
+abbrev pub request_for : Seen → Row → Content → Request
+request_for Unknown row content = search_for row
+request_for Absent row content = Create content
+request_for (At id tag revision) row content = replacement id tag content
 
 -- this request with the image of a row, if the row has one
 abbrev pub requested : (Content → Request) → Result Content ImageFault → Result Request ImageFault
@@ -49,13 +47,21 @@ requested request (Err fault) = Err fault
 -- by the image of the wanted row, or the place of its first member without an id (the last case doesn't occur: no image
 -- runs out of memory)
 abbrev pub asking_with : Result Content ImageFault → Known → Ask
-asking_with (Ok content) known = Send (request_for known.seen known.id known.wanted content)
+asking_with (Ok content) known = Send (request_for known.seen known.wanted content)
 asking_with (Err (MemberWithoutId place)) known = Waits (member_at known.wanted place)
 asking_with (Err Memory) known = Nothing
 
--- whether the wanted revision is confirmed
+-- whether the wanted revision is confirmed, and isn't doubted
 abbrev pub is_done : Known → Bool
-is_done known = same_revision known.confirmed (row_revision known.wanted)
+is_done known = not known.is_doubted && same_revision known.confirmed (row_revision known.wanted)
+
+abbrev pub is_done_if : Option Known → Bool
+is_done_if None = false
+is_done_if (Some known) = is_done known
+
+-- the same of a record; not if the record isn't in the book
+abbrev pub is_done_at : Book → RecordName → Bool
+is_done_at book name = is_done_if (book name)
 
 abbrev pub asking_of : Book → Known → Ask
 asking_of book known = if is_done known then Nothing else asking_with (imaged (known_id book) known.wanted) known

@@ -1,5 +1,5 @@
 -- The connector's book: for each record the wanted row, and what is known about the record at the provider.
-use Rattle.std.specs.Prelude.{◌≡◌, ℕ, List, Option, Some, None, IsSome, if◌then◌else◌}
+use Rattle.std.specs.Prelude.{ℕ, Bool, true, false, List, Option, Some, None, if◌then◌else◌}
 use Rattle.std.specs.Option.{option_map, option_and_then}
 use Rattle.scim_key.specs.Revisions.{RevisionValue, no_revision}
 use Rattle.scim_key.specs.declared.records.RecordName.{RecordName}
@@ -8,7 +8,7 @@ use Rattle.source_csv.specs.declared.rows.Row.{Row}
 use Rattle.connector_core.specs.History.{same_name}
 use Rattle.connector_core.specs.declared.knowledge.Known.{Known}
 use Rattle.connector_core.specs.declared.knowledge.Seen.{Seen}
-use Rattle.connector_core.specs.declared.knowledge.Seen.TheVariants.{Unknown, Absent, At}
+use Rattle.connector_core.specs.declared.knowledge.Seen.TheVariants.{Unknown}
 
 -- a record without a row of the source isn't in the book
 abbrev pub Book : Type 0
@@ -21,27 +21,11 @@ empty_book name = None
 abbrev pub put : Book → RecordName → Known → Book
 put book name known other = if same_name name other then Some known else book other
 
--- ---- what holds for each record
-
--- a resource that was seen has an id
-abbrev pub IsSeenWith : (id : Option (List ℕ)) → Seen → Type 0
-IsSeenWith id Unknown = Unit {0}
-IsSeenWith id Absent = Unit {0}
-IsSeenWith id (At tag revision) = IsSome id
-
--- the id of what was seen is known
-abbrev pub IsLocated : Known → Type 0
-IsLocated known = IsSeenWith known.id known.seen
-
--- this holds for each record of the book
-pub record AllLocated (book : Book) : Type 0 where
-  pub each : (name : RecordName) (known : Known) → book name ≡ Some known → IsLocated known
-
 -- ---- what the source changes
 
 -- a first row starts with nothing known; a later row replaces only the wanted row
 abbrev pub wanting : Option Known → Row → Known
-wanting None row = record { wanted = row; confirmed = no_revision; id = None; seen = Unknown }
+wanting None row = record { wanted = row; confirmed = no_revision; id = None; seen = Unknown; is_doubted = false }
 wanting (Some known) row = record known { wanted = row }
 
 -- the book in which this row is wanted
@@ -50,12 +34,13 @@ with_row book row = put book (row_name row) (wanting (book (row_name row)) row)
 
 -- ---- what a restart changes
 
-abbrev pub forgotten : Known → Known
-forgotten known = record known { seen = Unknown }
+-- what was seen is forgotten, and nothing is doubted
+abbrev pub undoubted : Known → Known
+undoubted known = record known { seen = Unknown; is_doubted = false }
 
--- the book after a restart: what was seen is forgotten, and everything else stays
+-- the book after a restart: what was seen and what was doubted is forgotten, and everything else stays
 abbrev pub reopened : Book → Book
-reopened book name = option_map forgotten (book name)
+reopened book name = option_map undoubted (book name)
 
 -- ---- how a record changes
 
@@ -63,13 +48,27 @@ reopened book name = option_map forgotten (book name)
 abbrev pub wanting_now : Row → Known → Known
 wanting_now row known = record known { wanted = row }
 
--- this was seen of the record
-abbrev pub seeing : Seen → Known → Known
-seeing seen known = record known { seen = seen }
+-- this was seen of the record, and it is doubted from now on, or isn't
+abbrev pub seeing : Seen → (is_doubted : Bool) → Known → Known
+seeing seen is_doubted known = record known { seen = seen; is_doubted = is_doubted }
+
+-- what was seen is forgotten
+abbrev pub forgotten : Known → Known
+forgotten known = seeing Unknown known.is_doubted known
 
 -- a resource was seen with this id, and this is confirmed
 abbrev pub learning : RevisionValue → List ℕ → Seen → Known → Known
-learning confirmed id seen known = record known { confirmed = confirmed; id = Some id; seen = seen }
+learning confirmed id seen known =
+    record known { confirmed = confirmed; id = Some id; seen = seen; is_doubted = false }
+
+-- What somebody else may have changed is doubted: it is searched for, and counts as confirmed only if it is seen as it is
+-- wanted. The wanted row, the confirmed revision and the id stay
+abbrev pub doubting : Known → Known
+doubting known = seeing Unknown true known
+
+-- the book in which this record is doubted, if it is there
+abbrev pub doubted : Book → RecordName → Book
+doubted book name other = if same_name name other then option_map doubting (book other) else book other
 
 -- ---- what is read
 

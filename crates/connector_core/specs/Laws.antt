@@ -1,5 +1,5 @@
 -- Laws of the connector.
-use Rattle.std.specs.Prelude.{◌≡◌, ◌≢◌, ℕ, List, Option, Some}
+use Rattle.std.specs.Prelude.{◌≡◌, ◌≢◌, ℕ, List, Some}
 use Rattle.scim_key.specs.Revisions.{RevisionValue}
 use Rattle.scim_key.specs.declared.records.RecordName.{RecordName}
 use Rattle.scim_message.specs.declared.messages.Request.{Request}
@@ -7,7 +7,7 @@ use Rattle.scim_resource.specs.declared.contents.Content.{Content}
 use Rattle.journal_core.specs.Memory.{MemoryRecord}
 use Rattle.journal_core.specs.MemoryLaws.{memory_faults}
 use Rattle.connector_core.specs.Asking.{asking, replacement}
-use Rattle.connector_core.specs.Book.{AllLocated, Book}
+use Rattle.connector_core.specs.Book.{Book}
 use Rattle.connector_core.specs.Changing.{CountsChange}
 use Rattle.connector_core.specs.Maps.{BookMap, MapsAreBooks}
 use Rattle.connector_core.specs.Noting.{CountsLearn}
@@ -35,18 +35,9 @@ pub record NoStoreFaults : Type 0 where
   pub learning : (old new : MemoryRecord) (fault : LearnFault)
       → CountsLearn (memory_faults old) (memory_faults new) fault → fault ≢ learn.Store
 
--- a request replaces the resource with this id by some content, if the resource still has this tag
-pub record Replaces (id : Option (List ℕ)) (tag : List ℕ) (request : Request) : Type 0 where
-  pub known : List ℕ
-  pub is_known : id ≡ Some known
-  pub content : Content
-  pub is : request ≡ replacement known tag content
-
--- if a record was seen with a tag, its next request is the replacement of that version at the known id, and never a
--- search
+-- if a record was seen with an id and a tag, its next request is the replacement of that version, and never a search
 abbrev pub ReplacesWhatWasSeen : Type 0
 ReplacesWhatWasSeen =
-    (book : Book) (name : RecordName) (known : Known) (tag : List ℕ) (revision : RevisionValue)
-    (request : Request) → AllLocated book
-    → book name ≡ Some known → known.seen ≡ At tag revision → asking book name ≡ Some (Send request)
-    → Replaces known.id tag request
+    (book : Book) (name : RecordName) (known : Known) (id tag : List ℕ) (revision : RevisionValue)
+    (request : Request) → book name ≡ Some known → known.seen ≡ At id tag revision
+    → asking book name ≡ Some (Send request) → (content : Content) × (request ≡ replacement id tag content)

@@ -3,9 +3,10 @@ use Rattle.std.specs.Prelude.{ℕ, Bool, true, false, not, ◌==◌, List, [], �
 use Rattle.std.specs.Option.{option_and_then}
 use Rattle.std.specs.Str.{bytes_eq}
 use Rattle.scim_key.specs.Outcome.{◌>>=◌}
-use Rattle.scim_key.specs.Revisions.{RevisionValue, before, later}
+use Rattle.scim_key.specs.Revisions.{RevisionValue, before, later, no_revision}
 use Rattle.scim_key.specs.declared.records.Kind.{Kind}
 use Rattle.scim_key.specs.declared.records.RecordName.{RecordName}
+use Rattle.scim_resource.specs.declared.contents.Content.{Content}
 use Rattle.scim_version.specs.declared.conditions.Condition.{Condition}
 use Rattle.scim_version.specs.declared.conditions.Condition.TheVariants.{Always, AnyTag, Tags}
 use Rattle.scim_resource.specs.Contents.{content_name}
@@ -19,8 +20,11 @@ use Rattle.scim_message.specs.declared.messages.Answer.{Answer}
 use Rattle.scim_message.specs.declared.messages.Answer.TheVariants.{Created, Found, Replaced, NotModified, Error}
 use Rattle.scim_message.specs.declared.messages.Answer.TheVariants as answers
 use Rattle.source_csv.specs.Records.{row_revision}
+use Rattle.mapping.specs.Images.{imaged}
+use Rattle.mapping.specs.declared.groups.ImageFault.{ImageFault}
+use Rattle.comparing.specs.Aspects.{is_same}
 use Rattle.connector_core.specs.History.{same_kind, same_name}
-use Rattle.connector_core.specs.Book.{Book, put, forgotten}
+use Rattle.connector_core.specs.Book.{Book, put, forgotten, known_id, learning, seeing}
 use Rattle.connector_core.specs.declared.knowledge.Known.{Known}
 use Rattle.connector_core.specs.declared.knowledge.Seen.{Seen}
 use Rattle.connector_core.specs.declared.knowledge.Seen.TheVariants.{Unknown, Absent, At}
@@ -141,21 +145,73 @@ pub record Lesson : Type 0 where
 abbrev pub nothing_new : Known → Lesson
 nothing_new known = record { known = known; learnt = learnt.Nothing }
 
+-- this was seen
+abbrev pub seen_at : Sight → Seen
+seen_at sight = At sight.id sight.tag sight.revision
+
 -- a resource was seen: its revision is confirmed, unless a higher one is
 abbrev pub sighted : Known → Sight → Lesson
 sighted known sight = record {
-  known = record known {
-    confirmed = later known.confirmed sight.revision;
-    id = Some sight.id;
-    seen = At sight.tag sight.revision;
-  };
+  known = learning (later known.confirmed sight.revision) sight.id (seen_at sight) known;
   learnt = if before known.confirmed sight.revision then learnt.Confirmed sight.revision else learnt.Seen;
 }
 
--- no resource was seen: the provider has none, unless an id is known
+-- no resource was seen, so the provider has none
+abbrev pub absent : Known → Lesson
+absent known = record { known = seeing Absent known.is_doubted known; learnt = learnt.Absent }
+
+-- no resource was seen: the provider has none, unless an id is known and isn't doubted
 abbrev pub none_sighted : (id : Option (List ℕ)) → Known → Lesson
-none_sighted None known = record { known = record known { seen = Absent }; learnt = learnt.Absent }
-none_sighted (Some id) known = nothing_new known
+none_sighted None known = absent known
+none_sighted (Some id) known = if known.is_doubted then absent known else nothing_new known
+
+-- ---- what is learnt about a doubted record
+
+-- the image of the row, if it has one, is this content; members may be in another order
+abbrev pub is_image : Result Content ImageFault → Content → Bool
+is_image (Ok image) content = is_same image content
+is_image (Err fault) content = false
+
+-- the content is what is wanted of the record
+abbrev pub is_wanted : Book → Known → Content → Bool
+is_wanted book known content = is_image (imaged (known_id book) known.wanted) content
+
+abbrev pub or_no_revision : Option RevisionValue → RevisionValue
+or_no_revision None = no_revision
+or_no_revision (Some revision) = revision
+
+-- the revision that a content shows; none if somebody took it out
+abbrev pub shown_revision : Content → RevisionValue
+shown_revision content = or_no_revision (content_revision content)
+
+-- A resource that isn't as it is wanted may be replaced if it has the record's name, no revision above the wanted one,
+-- and a tag. Its id may be another one than the known one
+abbrev pub fit_differing : RecordName → Known → ShownRecord → Result Sight LearnFault
+fit_differing name known s = do
+  _ ← fault_unless Unfit (same_name name (content_name s.content))
+  _ ← fault_unless Unfit (not (before (row_revision known.wanted) (shown_revision s.content)))
+  tag ← or_fault Unversioned s.version
+  Ok (record { id = s.id; revision = shown_revision s.content; tag = tag })
+
+-- a resource was seen that isn't as it is wanted: nothing is confirmed by it, and the record stays in doubt
+abbrev pub differing : Known → Sight → Lesson
+differing known sight = record { known = seeing (seen_at sight) known.is_doubted known; learnt = learnt.Seen }
+
+-- a resource was seen that is as it is wanted, at the wanted revision, under this tag
+abbrev pub agreeing : Known → (id tag : List ℕ) → Lesson
+agreeing known id tag = sighted known (record { id = id; revision = row_revision known.wanted; tag = tag })
+
+-- what is learnt about a doubted record from a shown resource: whether it is as it is wanted decides
+abbrev pub compared : (agrees : Bool) → RecordName → Known → ShownRecord → Result Lesson LearnFault
+compared true name known s = (or_fault Unversioned s.version >>= λ tag. Ok (agreeing known s.id tag))
+compared false name known s = (fit_differing name known s >>= λ sight. Ok (differing known sight))
+
+-- what is learnt about a record from a shown resource
+abbrev pub shown_lesson : Book → RecordName → Known → ShownRecord → Result Lesson LearnFault
+shown_lesson book name known s = if known.is_doubted then compared (is_wanted book known s.content) name known s
+    else (fit name known s >>= λ sight. Ok (sighted known sight))
+
+-- ---- outdated sights
 
 -- what was seen is forgotten, if the answer is about it
 abbrev pub forgetting : (concerned : Bool) → Known → Lesson
@@ -165,7 +221,7 @@ forgetting false known = nothing_new known
 abbrev pub is_absent : Seen → Bool
 is_absent Unknown = false
 is_absent Absent = true
-is_absent (At tag revision) = false
+is_absent (At id tag revision) = false
 
 abbrev pub is_alone : List (List ℕ) → (tag : List ℕ) → Bool
 is_alone [] tag = false
@@ -181,14 +237,14 @@ is_under_tag (Tags tags) tag = is_alone tags tag
 abbrev pub is_under : Condition → Seen → Bool
 is_under if_match Unknown = false
 is_under if_match Absent = false
-is_under if_match (At tag revision) = is_under_tag if_match tag
+is_under if_match (At id tag revision) = is_under_tag if_match tag
 
 -- What is learnt about a record from what an answer says
-abbrev pub lesson : RecordName → Known → Finding → Result Lesson LearnFault
-lesson name known (Shows s) = (fit name known s >>= λ sight. Ok (sighted known sight))
-lesson name known Shows_none = Ok (none_sighted known.id known)
-lesson name known Taken = Ok (forgetting (is_absent known.seen) known)
-lesson name known (Stale if_match) = Ok (forgetting (is_under if_match known.seen) known)
+abbrev pub lesson : Book → RecordName → Known → Finding → Result Lesson LearnFault
+lesson book name known (Shows s) = shown_lesson book name known s
+lesson book name known Shows_none = Ok (none_sighted known.id known)
+lesson book name known Taken = Ok (forgetting (is_absent known.seen) known)
+lesson book name known (Stale if_match) = Ok (forgetting (is_under if_match known.seen) known)
 
 -- the book afterwards, and what was learnt
 pub record Learning : Type 0 where
@@ -204,7 +260,7 @@ learn book request answer = do
   name ← or_fault Unfit (subject request)
   known ← or_fault NoSuchRecord (book name)
   said ← finding request answer
-  l ← lesson name known said
+  l ← lesson book name known said
   Ok (noted book name l)
 
 -- a refused answer changes nothing

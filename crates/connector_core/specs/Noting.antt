@@ -1,5 +1,5 @@
 -- What is learnt about which record, and how the book and the journal change.
-use Rattle.std.specs.Prelude.{◌≡◌, ◌≤◌, ◌⊎◌, ℕ, true, Option, Some, None, Result, Ok, Err, IsOk, if◌then◌else◌}
+use Rattle.std.specs.Prelude.{◌≡◌, ◌≢◌, ◌≤◌, ◌⊎◌, ℕ, List, Option, Some, None, Result, Ok, Err, IsOk, if◌then◌else◌}
 use Rattle.std.specs.FinMap.{get, insert}
 use Rattle.std.specs.Option.{option_map}
 use Rattle.scim_key.specs.Outcome.{◌>>=◌}
@@ -12,8 +12,8 @@ use Rattle.journal_core.specs.Entries.{EntryMap, with_learnt}
 use Rattle.journal_core.specs.Stores.{HasRisen}
 use Rattle.scim_key.specs.declared.stores.StoreFault.{StoreFault}
 use Rattle.scim_key.specs.declared.stores.StoreFault.TheVariants as store
-use Rattle.connector_core.specs.Book.{Book, IsSeenWith, learning, seeing}
-use Rattle.connector_core.specs.Learning.{Finding, Learning, Lesson, Sight, finding, fits_id, learn, lesson, noted, or_fault, subject}
+use Rattle.connector_core.specs.Book.{Book, learning, seeing}
+use Rattle.connector_core.specs.Learning.{Finding, Learning, Lesson, Sight, finding, learn, lesson, noted, or_fault, subject}
 use Rattle.connector_core.specs.Maps.{BookMap, book_of}
 use Rattle.connector_core.specs.State.{entry_of}
 use Rattle.connector_core.specs.declared.fitting.News.{News}
@@ -36,7 +36,7 @@ note book request answer = do
   name ← or_fault Unfit (subject request)
   known ← or_fault NoSuchRecord (book name)
   said ← finding request answer
-  l ← lesson name known said
+  l ← lesson book name known said
   Ok (record { name = name; lesson = l })
 
 abbrev pub noted_in : Book → Result Note LearnFault → Result Learning LearnFault
@@ -99,19 +99,19 @@ learn_fault store.Memory = Memory
 -- ---- news about a record
 
 -- what is learnt about a record from what an answer says, if it says something
-abbrev pub lesson_if : RecordName → Known → Result Finding LearnFault → Result Lesson LearnFault
-lesson_if name known (Ok said) = lesson name known said
-lesson_if name known (Err fault) = Err fault
+abbrev pub lesson_if : Book → RecordName → Known → Result Finding LearnFault → Result Lesson LearnFault
+lesson_if book name known (Ok said) = lesson book name known said
+lesson_if book name known (Err fault) = Err fault
 
 -- what is known afterwards
 abbrev pub after_news : News → Known → Known
 after_news (Lasting confirmed id seen learnt) known = learning confirmed id seen known
-after_news (Passing seen learnt) known = seeing seen known
+after_news (Passing seen is_doubted learnt) known = seeing seen is_doubted known
 after_news Nothing known = known
 
 abbrev pub news_learnt : News → Learnt
 news_learnt (Lasting confirmed id seen learnt) = learnt
-news_learnt (Passing seen learnt) = learnt
+news_learnt (Passing seen is_doubted learnt) = learnt
 news_learnt Nothing = learnt.Nothing
 
 abbrev pub lesson_of : Known → News → Lesson
@@ -120,19 +120,19 @@ lesson_of known news = record { known = after_news news known; learnt = news_lea
 -- the entries of the journal afterwards
 abbrev pub entries_with : EntryMap → RecordName → News → EntryMap
 entries_with entries name (Lasting confirmed id seen learnt) = with_learnt entries name confirmed id
-entries_with entries name (Passing seen learnt) = entries
+entries_with entries name (Passing seen is_doubted learnt) = entries
 entries_with entries name Nothing = entries
 
--- the journal must keep this: a revision that may be confirmed, with an id if none was known, or higher than before
-pub record IsToBeKept (known : Known) (confirmed : RevisionValue) : Type 0 where
+-- the journal must keep this: a revision that may be confirmed, with another id or higher than before
+pub record IsToBeKept (known : Known) (confirmed : RevisionValue) (id : List ℕ) : Type 0 where
   pub confirms : IsNoneOrRevision known.confirmed → IsRevision confirmed
   pub within : known.confirmed ≼ row_revision known.wanted → confirmed ≼ row_revision known.wanted
-  pub changes : (known.id ≡ None) ⊎ (known.confirmed ≺ confirmed)
+  pub changes : (known.id ≢ Some id) ⊎ (known.confirmed ≺ confirmed)
 
--- the journal is written only for what it must keep; what was only seen is seen with an id
+-- the journal is written only for what it must keep
 abbrev pub IsNewsOf : Known → News → Type 0
-IsNewsOf known (Lasting confirmed id seen learnt) = IsToBeKept known confirmed
-IsNewsOf known (Passing seen learnt) = IsSeenWith known.id seen
+IsNewsOf known (Lasting confirmed id seen learnt) = IsToBeKept known confirmed id
+IsNewsOf known (Passing seen is_doubted learnt) = Unit {0}
 IsNewsOf known Nothing = Unit {0}
 
 -- a revision, if there is one and it isn't above the wanted one
@@ -140,9 +140,8 @@ abbrev pub within : Known → Option RevisionValue → Option RevisionValue
 within known None = None
 within known (Some revision) = if before (row_revision known.wanted) revision then None else Some revision
 
--- a valid revision up to the wanted one, with the known id
+-- a valid revision up to the wanted one
 pub record IsFit (known : Known) (sight : Sight) : Type 0 where
-  pub id : fits_id known.id sight.id ≡ true
   pub lawful : IsRevision sight.revision
   pub within : sight.revision ≼ row_revision known.wanted
 
@@ -174,5 +173,5 @@ IsOfJournal Memory = Unit {0}
 
 abbrev pub IsPassing : News → Type 0
 IsPassing (Lasting confirmed id seen learnt) = ⊥
-IsPassing (Passing seen learnt) = Unit {0}
+IsPassing (Passing seen is_doubted learnt) = Unit {0}
 IsPassing Nothing = Unit {0}

@@ -1,5 +1,5 @@
 -- The connector: its journal and its book.
-use Rattle.std.specs.Prelude.{◌≡◌, ◌⊎◌, ◌≤◌, ℕ, List, Some, Result, Ok, Err, OnErr, OnOk, map}
+use Rattle.std.specs.Prelude.{◌≡◌, ◌⊎◌, ◌≤◌, ℕ, false, List, Some, Result, Ok, Err, OnErr, OnOk, map}
 use Rattle.std.specs.FinMap.{from_entries, get, keys}
 use Rattle.std.specs.Option.{option_map}
 use Rattle.scim_key.specs.declared.records.RecordName.{RecordName}
@@ -23,7 +23,7 @@ pub record State (J : Type 0) : Type 0 where
 
 -- ---- what the journal keeps of the book
 
--- everything except what was seen
+-- everything except what was seen, and whether it is doubted
 abbrev pub entry_of : Known → Entry
 entry_of known = record { row = known.wanted; confirmed = known.confirmed; id = known.id }
 
@@ -58,9 +58,15 @@ pub record Leaves {J T F : Type 0} (h : Journals J) (old new : State J) (later :
 
 -- ---- opening
 
--- what is known about an entry's record when the connector is opened: nothing was seen
+-- what is known about an entry's record when the connector is opened: nothing was seen, and nothing is doubted
 abbrev pub opened : Entry → Known
-opened entry = record { wanted = entry.row; confirmed = entry.confirmed; id = entry.id; seen = Unknown }
+opened entry = record {
+  wanted = entry.row;
+  confirmed = entry.confirmed;
+  id = entry.id;
+  seen = Unknown;
+  is_doubted = false;
+}
 
 abbrev pub opened_named : Entry → RecordName × Known
 opened_named entry = (row_name entry.row, opened entry)

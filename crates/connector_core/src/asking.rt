@@ -5,7 +5,7 @@ ghost use Rattle.std.specs.Option.{ok_or};
 ghost use Rattle.scim_key.specs.Outcome.{Gives};
 ghost use Rattle.mapping.specs.Images.{imaged};
 ghost use Rattle.connector_core.specs.History.{user};
-ghost use Rattle.connector_core.specs.Asking.{asking, replacement, request_for, requested, search_for};
+ghost use Rattle.connector_core.specs.Asking.{asking, is_done, is_done_at, replacement, request_for, requested, search_for};
 ghost use Rattle.connector_core.specs.Book.{known_id};
 ghost use Rattle.connector_core.specs.Maps.{book_of};
 
@@ -31,7 +31,7 @@ pub const MOST_EXCHANGES: u32 = 3;
 /// What the connector asks for next for a record.
 #[derive(Drop)]
 pub enum Ask {
-    /// Nothing: the wanted revision is confirmed.
+    /// Nothing: the wanted revision is confirmed, and isn't doubted.
     Nothing,
     /// Nothing yet: this member, the first by key, has no id.
     Waits(Key),
@@ -137,25 +137,42 @@ fn search_if_ready(alloc: Global, book: &Book, row: &Row) -> Result<Request, Ima
     Ok(search_for(alloc, row)?)
 }
 
-/// The request for a record that isn't confirmed, by what was seen of it, if its row has an image.
+/// The request for a record that isn't done, by what was seen of it, if its row has an image.
 fn request_for(alloc: Global, book: &Book, known: &Known) -> Result<Request, ImageFault>
     ensures { Gives ImageFault.Memory result
-        (requested (request_for known.now.seen known.now.id known.now.wanted)
+        (requested (request_for known.now.seen known.now.wanted)
         (imaged (known_id (book_of book.now)) known.now.wanted)) }
 {
-    match (&known.seen, &known.id) {
-        (Seen::Absent, _) => Ok(Request::Create {
+    match &known.seen {
+        Seen::Unknown => search_if_ready(alloc, book, &known.wanted),
+        Seen::Absent => Ok(Request::Create {
             content: row_content(alloc, &known.wanted, book)?,
         }),
-        (Seen::At { tag, .. }, Some(id)) => {
+        Seen::At { id, tag, .. } => {
             let content = row_content(alloc, &known.wanted, book)?;
             Ok(replacement(alloc, id, tag, content)?)
         }
-        (Seen::Unknown, _) | (Seen::At { .. }, None) => search_if_ready(alloc, book, &known.wanted),
     }
 }
 
+/// Whether the wanted revision is confirmed, and isn't doubted.
+fn is_done(known: &Known) -> bool
+    ensures { result ≡ is_done known.now }
+{
+    !known.is_doubted && known.confirmed == known.wanted.revision()
+}
+
 impl<J: Journal> Connector<J> {
+    /// Whether nothing is asked for a record: its wanted revision is confirmed, and isn't doubted.
+    pub fn is_done(&self, name: &RecordName) -> bool
+        ensures { result ≡ is_done_at (book_of self.now.book) name.now }
+    {
+        match self.book.get(name) {
+            Some(known) => is_done(known),
+            None => false,
+        }
+    }
+
     /// What the connector asks for next for a record. It writes nothing and changes nothing.
     pub fn ask(&self, name: &RecordName) -> Result<Ask, AskFault>
         ensures { Gives AskFault.Memory result
@@ -164,7 +181,7 @@ impl<J: Journal> Connector<J> {
         let Some(known) = self.book.get(name) else {
             return Err(AskFault::NoSuchRecord);
         };
-        if known.confirmed == known.wanted.revision() {
+        if is_done(known) {
             return Ok(Ask::Nothing);
         }
         match request_for(self.alloc, &self.book, known) {

@@ -52,14 +52,15 @@ fn want(records: &mut BTreeMap<Key, Known>, key: &Key, row: Row) -> Option<Row>
     }
 }
 
-/// Sets what was seen of an existing record.
-fn see(records: &mut BTreeMap<Key, Known>, key: &Key, seen: Seen)
+/// Sets what was seen of an existing record, and whether it is doubted.
+fn see(records: &mut BTreeMap<Key, Known>, key: &Key, seen: Seen, is_doubted: bool)
     requires { IsSome (get_in key_cmp records.old key.now) }
     ensures { Updates key_cmp records.old records.new key.now
-        (option_map (seeing seen) (get_in key_cmp records.old key.now)) }
+        (option_map (seeing seen is_doubted) (get_in key_cmp records.old key.now)) }
 {
     if let Some(known) = records.get_mut(key) {
         known.seen = seen;
+        known.is_doubted = is_doubted;
     }
 }
 
@@ -79,6 +80,7 @@ fn learn(
         known.confirmed = confirmed;
         known.id = Some(id);
         known.seen = seen;
+        known.is_doubted = false;
     }
 }
 
@@ -199,14 +201,14 @@ impl Book {
         }
     }
 
-    /// Sets what was seen of an existing record. It allocates nothing.
-    pub(crate) fn see(&mut self, name: &RecordName, seen: Seen)
+    /// Sets what was seen of an existing record, and whether it is doubted. It allocates nothing.
+    pub(crate) fn see(&mut self, name: &RecordName, seen: Seen, is_doubted: bool)
         requires { IsSome (get self.old name.now) }
-        ensures { self.new ≡ changed (seeing seen) self.old name.now }
+        ensures { self.new ≡ changed (seeing seen is_doubted) self.old name.now }
     {
         match name.kind {
-            Kind::User => see(&mut self.users, &name.key, seen),
-            Kind::Group => see(&mut self.groups, &name.key, seen),
+            Kind::User => see(&mut self.users, &name.key, seen, is_doubted),
+            Kind::Group => see(&mut self.groups, &name.key, seen, is_doubted),
         }
     }
 

@@ -3,8 +3,8 @@ ghost use Rattle.std.specs.Prelude.{◌≡◌, IfOk};
 ghost use Rattle.std.specs.FinMap.{keys};
 ghost use Rattle.std.specs.Option.{option_copied};
 ghost use Rattle.journal_core.specs.Calls.{Reads};
-ghost use Rattle.connector_core.specs.Book.{confirmed_of, known_id, seen_of, wanted_of, wanted_row};
-ghost use Rattle.connector_core.specs.Maps.{book_of};
+ghost use Rattle.connector_core.specs.Book.{confirmed_of, doubted, doubting, known_id, seen_of, wanted_of, wanted_row};
+ghost use Rattle.connector_core.specs.Maps.{book_of, changed};
 ghost use Rattle.connector_core.specs.State.{CountsOpenFault, IsKept, IsOpened, LeavesBook, journal_after};
 
 use crate::books::Book;
@@ -18,7 +18,7 @@ use std::marker::Model;
 
 /// The connector: what the source wants of each record, and what is known about the record at the provider.
 ///
-/// The journal keeps all of this except what was seen.
+/// The journal keeps all of this except what was seen, and what is doubted.
 #[derive(Drop)]
 pub struct Connector<J: Journal> {
     pub(crate) alloc: Global,
@@ -29,8 +29,6 @@ pub struct Connector<J: Journal> {
 impl<J: Journal> Model for Connector<J> {
     ghost use Rattle.std.specs.Coded.{codes};
     ghost use Rattle.std.specs.FinMap as fin;
-    ghost use Rattle.connector_core.specs.Book.{AllLocated};
-    ghost use Rattle.connector_core.specs.Maps.{book_of};
     ghost use Rattle.connector_core.specs.State.{State, IsKept};
 
     ghost Value = { State J };
@@ -39,8 +37,7 @@ impl<J: Journal> Model for Connector<J> {
 
     ghost view = { λ c. record { journal = c.journal; book = c.book } };
 
-    ghost invariant = { λ c. (J.is_faithful c.journal → IsKept (J.entries c.journal) c.book)
-        × AllLocated (book_of c.book) };
+    ghost invariant = { λ c. J.is_faithful c.journal → IsKept (J.entries c.journal) c.book };
 }
 
 impl<J: Journal> Connector<J> {
@@ -69,7 +66,7 @@ impl<J: Journal> Connector<J> {
         }
     }
 
-    /// Gives the journal back, with its current entries. What was seen is forgotten.
+    /// Gives the journal back, with its current entries. What was seen is forgotten, and so is what is doubted.
     pub fn close(self) -> J
         ensures value { result ≡ self.journal }
         ensures kept { J.is_faithful self.journal → IsKept (J.entries self.journal) self.book }
@@ -85,6 +82,22 @@ impl<J: Journal> Connector<J> {
         match self.book.get(name) {
             Some(known) => Some(&known.seen),
             None => None,
+        }
+    }
+
+    /// From now on this record is doubted, if it exists: it is searched for, and counts as confirmed only once it is seen
+    /// as it is wanted. Nothing is written, and it allocates nothing.
+    pub fn doubt(&mut self, name: &RecordName)
+        ensures book { self.new.book ≡ changed doubting self.old.book name.now }
+        ensures doubted { book_of self.new.book ≡ doubted (book_of self.old.book) name.now }
+        ensures names { keys self.new.book ≡ keys self.old.book }
+        ensures journal { self.new.journal ≡ self.old.journal }
+        ensures kept { J.is_faithful self.new.journal
+            → IsKept (J.entries self.new.journal) self.new.book }
+        ensures leaves { LeavesBook J.Journal self.old → LeavesBook J.Journal self.new }
+    {
+        if self.book.get(name).is_some() {
+            self.book.see(name, Seen::Unknown, true);
         }
     }
 

@@ -2,9 +2,10 @@
 ghost use Rattle.std.specs.Prelude.{◌≡◌, ℕ, IfErr, IfOk};
 ghost use Rattle.scim_key.specs.Outcome.{GivesBy};
 ghost use Rattle.connector_core.specs.Learning as spec;
+ghost use Rattle.connector_core.specs.Maps.{book_of};
 ghost use Rattle.connector_core.specs.Noting.{CountsLearn, IsNewsOf, lesson_if, lesson_of};
-ghost use Rattle.connector_core.specs.declared.knowledge.Known.{Known as KnownRecord};
 
+use crate::books::Book;
 use crate::fitting::{News, shown};
 use crate::knowledge::{Known, Seen};
 use crate::learning::{LearnFault, Learnt};
@@ -13,29 +14,30 @@ use scim_message::{Answer, ListResponse, Request};
 use scim_version::{Condition, EntityTag, TagList};
 use std::alloc::Global;
 
-/// The news if the provider has no such resource: nothing if an id is known.
+/// The news if the provider has no such resource: nothing if an id is known and isn't doubted.
 fn none_shown(known: &Known) -> News
     ensures gives { lesson_of known.now result ≡ spec.none_sighted known.now.id known.now }
     ensures news { IsNewsOf known.now result }
 {
-    match &known.id {
-        None => News::Passing {
-            seen: Seen::Absent,
-            learnt: Learnt::Absent,
-        },
-        Some(_) => News::Nothing,
+    if known.id.is_some() && !known.is_doubted {
+        return News::Nothing;
+    }
+    News::Passing {
+        seen: Seen::Absent,
+        is_doubted: known.is_doubted,
+        learnt: Learnt::Absent,
     }
 }
 
 /// The news if an answer says that what was seen is outdated, provided that the answer is about it.
-fn forgetting(is_concerned: bool) -> News
-    ensures gives { (known : KnownRecord)
-        → lesson_of known result ≡ spec.forgetting is_concerned known }
-    ensures news { (known : KnownRecord) → IsNewsOf known result }
+fn forgetting(is_concerned: bool, known: &Known) -> News
+    ensures gives { lesson_of known.now result ≡ spec.forgetting is_concerned known.now }
+    ensures news { IsNewsOf known.now result }
 {
     if is_concerned {
         News::Passing {
             seen: Seen::Unknown,
+            is_doubted: known.is_doubted,
             learnt: Learnt::Forgotten,
         }
     } else {
@@ -70,18 +72,19 @@ fn is_under(if_match: &Condition, seen: &Seen) -> bool
 /// The news from a list that answers a search: the resource that was found, or none.
 fn listed(
     alloc: Global,
+    book: &Book,
     name: &RecordName,
     known: &Known,
     list: &ListResponse,
 ) -> Result<News, LearnFault>
     ensures gives { GivesBy (lesson_of known.now) LearnFault.Memory result
-        (lesson_if name.now known.now (spec.listed list.now.total list.now.resources)) }
+        (lesson_if (book_of book.now) name.now known.now (spec.listed list.now.total list.now.resources)) }
     ensures news { IfOk result (IsNewsOf known.now) }
     ensures counted { IfErr result (λ fault. (n : ℕ) → CountsLearn n n fault) }
 {
     match list.resources.as_slice() {
         [] if list.total == 0 => Ok(none_shown(known)),
-        [only] if list.total == 1 => shown(alloc, name, known, only),
+        [only] if list.total == 1 => shown(alloc, book, name, known, only),
         _ => Err(LearnFault::Unfit),
     }
 }
@@ -89,18 +92,22 @@ fn listed(
 /// The news in the answer to a Create.
 fn from_creating(
     alloc: Global,
+    book: &Book,
     name: &RecordName,
     known: &Known,
     answer: &Answer,
 ) -> Result<News, LearnFault>
     ensures gives { GivesBy (lesson_of known.now) LearnFault.Memory result
-        (lesson_if name.now known.now (spec.found_creating answer.now)) }
+        (lesson_if (book_of book.now) name.now known.now (spec.found_creating answer.now)) }
     ensures news { IfOk result (IsNewsOf known.now) }
     ensures counted { IfErr result (λ fault. (n : ℕ) → CountsLearn n n fault) }
 {
     match answer {
-        Answer::Created(resource) => shown(alloc, name, known, resource),
-        Answer::Error(error) if error.status() == 409 => Ok(forgetting(is_absent(&known.seen))),
+        Answer::Created(resource) => shown(alloc, book, name, known, resource),
+        Answer::Error(error) if error.status() == 409 => Ok(forgetting(
+            is_absent(&known.seen),
+            known,
+        )),
         Answer::Error(error) => Err(LearnFault::Refused {
             status: error.status(),
         }),
@@ -111,17 +118,18 @@ fn from_creating(
 /// The news in the answer to a Search.
 fn from_searching(
     alloc: Global,
+    book: &Book,
     name: &RecordName,
     known: &Known,
     answer: &Answer,
 ) -> Result<News, LearnFault>
     ensures gives { GivesBy (lesson_of known.now) LearnFault.Memory result
-        (lesson_if name.now known.now (spec.found_searching answer.now)) }
+        (lesson_if (book_of book.now) name.now known.now (spec.found_searching answer.now)) }
     ensures news { IfOk result (IsNewsOf known.now) }
     ensures counted { IfErr result (λ fault. (n : ℕ) → CountsLearn n n fault) }
 {
     match answer {
-        Answer::List(list) => listed(alloc, name, known, list),
+        Answer::List(list) => listed(alloc, book, name, known, list),
         Answer::Error(error) => Err(LearnFault::Refused {
             status: error.status(),
         }),
@@ -132,20 +140,21 @@ fn from_searching(
 /// The news in the answer to a Replace under a condition.
 fn from_replacing(
     alloc: Global,
+    book: &Book,
     name: &RecordName,
     known: &Known,
     if_match: &Condition,
     answer: &Answer,
 ) -> Result<News, LearnFault>
     ensures gives { GivesBy (lesson_of known.now) LearnFault.Memory result
-        (lesson_if name.now known.now (spec.found_replacing if_match.now answer.now)) }
+        (lesson_if (book_of book.now) name.now known.now (spec.found_replacing if_match.now answer.now)) }
     ensures news { IfOk result (IsNewsOf known.now) }
     ensures counted { IfErr result (λ fault. (n : ℕ) → CountsLearn n n fault) }
 {
     match answer {
-        Answer::Replaced(resource) => shown(alloc, name, known, resource),
+        Answer::Replaced(resource) => shown(alloc, book, name, known, resource),
         Answer::Error(error) if error.status() == 412 => {
-            Ok(forgetting(is_under(if_match, &known.seen)))
+            Ok(forgetting(is_under(if_match, &known.seen), known))
         }
         Answer::Error(error) => Err(LearnFault::Refused {
             status: error.status(),
@@ -157,20 +166,23 @@ fn from_replacing(
 /// The news about a record in the answer to a request.
 pub(crate) fn news_in(
     alloc: Global,
+    book: &Book,
     name: &RecordName,
     known: &Known,
     request: &Request,
     answer: &Answer,
 ) -> Result<News, LearnFault>
     ensures gives { GivesBy (lesson_of known.now) LearnFault.Memory result
-        (lesson_if name.now known.now (spec.finding request.now answer.now)) }
+        (lesson_if (book_of book.now) name.now known.now (spec.finding request.now answer.now)) }
     ensures news { IfOk result (IsNewsOf known.now) }
     ensures counted { IfErr result (λ fault. (n : ℕ) → CountsLearn n n fault) }
 {
     match request {
-        Request::Create { .. } => from_creating(alloc, name, known, answer),
-        Request::Search { .. } => from_searching(alloc, name, known, answer),
-        Request::Replace { if_match, .. } => from_replacing(alloc, name, known, if_match, answer),
+        Request::Create { .. } => from_creating(alloc, book, name, known, answer),
+        Request::Search { .. } => from_searching(alloc, book, name, known, answer),
+        Request::Replace { if_match, .. } => from_replacing(
+            alloc, book, name, known, if_match, answer,
+        ),
         Request::Retrieve { .. } => Err(LearnFault::Unfit),
     }
 }

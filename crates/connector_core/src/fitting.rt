@@ -1,21 +1,26 @@
 //! Whether a shown resource is the record's, and the news in it.
-ghost use Rattle.std.specs.Prelude.{◌≡◌, ℕ, IfErr, IfOk, IfSome};
+ghost use Rattle.std.specs.Prelude.{◌≡◌, ◌≢◌, ◌↔◌, ◌⊎◌, ℕ, true, Some, IfErr, IfOk, IfSome};
 ghost use Rattle.std.specs.Str.{bytes_eq};
 ghost use Rattle.scim_key.specs.Names.{key_of};
 ghost use Rattle.scim_key.specs.Outcome.{Gives, GivesBy};
-ghost use Rattle.scim_key.specs.Revisions.{IsRevision, ◌≼◌};
+ghost use Rattle.scim_key.specs.Revisions.{IsRevision, later, ◌≺◌, ◌≼◌};
 ghost use Rattle.scim_resource.specs.Contents.{content_name, content_revision};
 ghost use Rattle.source_csv.specs.Records.{row_revision};
+ghost use Rattle.connector_core.specs.Book.{learning};
 ghost use Rattle.connector_core.specs.History.{same_name};
 ghost use Rattle.connector_core.specs.Learning as spec;
+ghost use Rattle.connector_core.specs.Maps.{book_of};
 ghost use Rattle.connector_core.specs.Noting.{CountsLearn, IsFit, IsNewsOf, lesson_of, within};
 
+use crate::books::Book;
 use crate::knowledge::{Known, Seen};
 use crate::learning::{LearnFault, Learnt};
+use comparing::is_as_wanted;
+use mapping::{ImageFault, row_content};
 use scim_key::{Key, Kind, RecordName, ResourceId, Revision};
 use scim_resource::{Content, Shown};
 use scim_version::EntityTag;
-use std::alloc::Global;
+use std::alloc::{AllocError, Global};
 use std::marker::Model;
 
 /// What is new about a record.
@@ -28,9 +33,10 @@ pub(crate) enum News {
         seen: Seen,
         learnt: Learnt,
     },
-    /// What was seen, which the journal doesn't keep.
+    /// What was seen and whether the record is doubted, which the journal doesn't keep.
     Passing {
         seen: Seen,
+        is_doubted: bool,
         learnt: Learnt,
     },
     Nothing,
@@ -46,6 +52,7 @@ pub(crate) struct Sight {
 
 impl Model for Sight {
     ghost use Rattle.connector_core.specs.Learning as spec;
+    ghost use Rattle.connector_core.specs.Maps.{book_of};
 
     ghost Value = { spec.Sight };
 
@@ -105,53 +112,176 @@ fn fit(alloc: Global, name: &RecordName, known: &Known, shown: &Shown) -> Result
     let Some(revision) = revision_within(known, shown.content()) else {
         return Err(LearnFault::Unfit);
     };
-    let Some(tag) = shown.version() else {
-        return Err(LearnFault::Unversioned);
-    };
     Ok(Sight {
+        tag: tag_of(shown)?,
         id: shown.id().clone()?,
         revision,
-        tag: tag.clone()?,
     })
 }
 
-/// The news from a resource that was seen.
-fn sighted(known: &Known, sight: Sight) -> News
-    requires { IsFit known.now sight }
-    ensures gives { lesson_of known.now result ≡ spec.sighted known.now sight }
-    ensures news { IsNewsOf known.now result }
+/// Whether this is the known id.
+fn is_known(known: &Known, id: &ResourceId) -> bool
+    ensures { (result ≡ true) ↔ (known.now.id ≡ Some id.now) }
 {
-    let Sight { id, revision, tag } = sight;
-    let is_higher = known.confirmed.is_before(revision);
-    let seen = Seen::At { tag, revision };
-    let learnt = if is_higher {
-        Learnt::Confirmed(revision)
-    } else {
-        Learnt::Seen
-    };
-    if is_higher || known.id.is_none() {
-        News::Lasting {
-            confirmed: known.confirmed.later(revision),
-            id,
-            seen,
-            learnt,
-        }
-    } else {
-        News::Passing { seen, learnt }
+    match &known.id {
+        None => false,
+        Some(known) => known.as_str() == id.as_str(),
     }
 }
 
-/// The news from a shown resource.
-pub(crate) fn shown(
+/// The news that the journal keeps too, from a resource that was seen and fits.
+fn lasting(alloc: Global, known: &Known, sight: Sight, learnt: Learnt) -> Result<News, AllocError>
+    requires fit { IsFit known.now sight }
+    requires new { (known.now.id ≢ Some sight.id) ⊎ (known.now.confirmed ≺ sight.revision) }
+    ensures gives { IfOk result (λ news. lesson_of known.now news ≡ record {
+      known = learning (later known.now.confirmed sight.revision) sight.id
+          (spec.seen_at sight) known.now;
+      learnt = learnt;
+    }) }
+    ensures news { IfOk result (IsNewsOf known.now) }
+{
+    Ok(News::Lasting {
+        confirmed: known.confirmed.later(sight.revision),
+        id: sight.id.clone()?,
+        seen: seen_at(sight),
+        learnt,
+    })
+}
+
+/// The news from a resource that was seen and fits.
+fn sighted(alloc: Global, known: &Known, sight: Sight) -> Result<News, AllocError>
+    requires { IsFit known.now sight }
+    ensures gives { IfOk result (λ news. lesson_of known.now news
+        ≡ spec.sighted known.now sight) }
+    ensures news { IfOk result (IsNewsOf known.now) }
+{
+    if known.confirmed.is_before(sight.revision) {
+        let learnt = Learnt::Confirmed(sight.revision);
+        return lasting(alloc, known, sight, learnt);
+    }
+    if is_known(known, &sight.id) {
+        return Ok(News::Passing {
+            seen: seen_at(sight),
+            is_doubted: false,
+            learnt: Learnt::Seen,
+        });
+    }
+    lasting(alloc, known, sight, Learnt::Seen)
+}
+
+fn seen_at(sight: Sight) -> Seen
+    ensures { result ≡ spec.seen_at sight }
+{
+    let Sight { id, revision, tag } = sight;
+    Seen::At { id, tag, revision }
+}
+
+/// Whether a content is what is wanted of a record.
+fn is_wanted(
     alloc: Global,
+    book: &Book,
+    known: &Known,
+    content: &Content,
+) -> Result<bool, AllocError>
+    ensures { IfOk result (λ is. is ≡ spec.is_wanted (book_of book.now) known.now content.now) }
+{
+    match row_content(alloc, &known.wanted, book) {
+        Ok(image) => Ok(is_as_wanted(&image, content)),
+        Err(ImageFault::MemberWithoutId { .. }) => Ok(false),
+        Err(ImageFault::Memory) => Err(AllocError),
+    }
+}
+
+/// The revision that a content shows, or none.
+fn shown_revision(content: &Content) -> Revision
+    ensures { result ≡ spec.shown_revision content.now }
+{
+    match content.revision() {
+        Some(revision) => revision,
+        None => Revision::none(),
+    }
+}
+
+/// The entity tag of a resource.
+fn tag_of(shown: &Shown) -> Result<EntityTag, LearnFault>
+    ensures gives { Gives LearnFault.Memory result
+        (spec.or_fault LearnFault.Unversioned shown.now.version) }
+    ensures counted { IfErr result (λ fault. (n : ℕ) → CountsLearn n n fault) }
+{
+    match shown.version() {
+        Some(tag) => Ok(tag.clone()?),
+        None => Err(LearnFault::Unversioned),
+    }
+}
+
+/// A shown resource that isn't as it is wanted as a sight of the record: it must have the record's name, a revision up to
+/// the wanted one or none, and an entity tag.
+fn fit_differing(
+    alloc: Global,
+    name: &RecordName,
+    known: &Known,
+    shown: &Shown,
+) -> Result<Sight, LearnFault>
+    ensures gives { Gives LearnFault.Memory result
+        (spec.fit_differing name.now known.now shown.now) }
+    ensures counted { IfErr result (λ fault. (n : ℕ) → CountsLearn n n fault) }
+{
+    let revision = shown_revision(shown.content());
+    if !is_named(name, shown.content()) || known.wanted.revision().is_before(revision) {
+        return Err(LearnFault::Unfit);
+    }
+    Ok(Sight {
+        tag: tag_of(shown)?,
+        id: shown.id().clone()?,
+        revision,
+    })
+}
+
+/// The news about a doubted record from a shown resource.
+fn compared(
+    alloc: Global,
+    agrees: bool,
     name: &RecordName,
     known: &Known,
     shown: &Shown,
 ) -> Result<News, LearnFault>
     ensures gives { GivesBy (lesson_of known.now) LearnFault.Memory result
-        (spec.lesson name.now known.now (spec.Shows shown.now)) }
+        (spec.compared agrees name.now known.now shown.now) }
     ensures news { IfOk result (IsNewsOf known.now) }
     ensures counted { IfErr result (λ fault. (n : ℕ) → CountsLearn n n fault) }
 {
-    Ok(sighted(known, fit(alloc, name, known, shown)?))
+    if agrees {
+        let sight = Sight {
+            tag: tag_of(shown)?,
+            id: shown.id().clone()?,
+            revision: known.wanted.revision(),
+        };
+        return Ok(sighted(alloc, known, sight)?);
+    }
+    Ok(News::Passing {
+        seen: seen_at(fit_differing(alloc, name, known, shown)?),
+        is_doubted: known.is_doubted,
+        learnt: Learnt::Seen,
+    })
+}
+
+/// The news from a shown resource.
+pub(crate) fn shown(
+    alloc: Global,
+    book: &Book,
+    name: &RecordName,
+    known: &Known,
+    shown: &Shown,
+) -> Result<News, LearnFault>
+    ensures gives { GivesBy (lesson_of known.now) LearnFault.Memory result
+        (spec.shown_lesson (book_of book.now) name.now known.now shown.now) }
+    ensures news { IfOk result (IsNewsOf known.now) }
+    ensures counted { IfErr result (λ fault. (n : ℕ) → CountsLearn n n fault) }
+{
+    if known.is_doubted {
+        let agrees = is_wanted(alloc, book, known, shown.content())?;
+        return compared(alloc, agrees, name, known, shown);
+    }
+    let sight = fit(alloc, name, known, shown)?;
+    Ok(sighted(alloc, known, sight)?)
 }

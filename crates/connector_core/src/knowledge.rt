@@ -10,8 +10,12 @@ pub enum Seen {
     Unknown,
     /// The provider has no resource of the record.
     Absent,
-    /// A resource with this entity tag, at this revision of the source.
-    At { tag: EntityTag, revision: Revision },
+    /// A resource with this id and this entity tag, at this revision of the source, or at none.
+    At {
+        id: ResourceId,
+        tag: EntityTag,
+        revision: Revision,
+    },
 }
 
 /// What the connector knows about a record.
@@ -23,6 +27,8 @@ pub struct Known {
     /// The id that the provider gave to the record.
     pub id: Option<ResourceId>,
     pub seen: Seen,
+    /// Whether somebody else may have changed it. Then it counts as confirmed only once it is seen as it is wanted.
+    pub is_doubted: bool,
 }
 
 /// Dropping it is one call, as for a row.
@@ -33,6 +39,7 @@ impl Drop for Known {
             confirmed: _,
             id: _,
             seen: _,
+            is_doubted: _,
         } = self;
     }
 }

@@ -141,7 +141,7 @@ fn judge(
     let Some(known) = book.get(&name) else {
         return Err(LearnFault::NoSuchRecord);
     };
-    let news = news_in(alloc, &name, known, request, answer)?;
+    let news = news_in(alloc, book, &name, known, request, answer)?;
     Ok((name, news))
 }
 
@@ -206,8 +206,12 @@ impl<J: Journal> Connector<J> {
                 self.book.learn(name, confirmed, id, seen);
                 Ok(learnt)
             }
-            News::Passing { seen, learnt } => {
-                self.book.see(name, seen);
+            News::Passing {
+                seen,
+                is_doubted,
+                learnt,
+            } => {
+                self.book.see(name, seen, is_doubted);
                 Ok(learnt)
             }
             News::Nothing => Ok(Learnt::Nothing),

@@ -42,6 +42,7 @@ fn known_of(entry: Entry) -> Known
         confirmed,
         id,
         seen: Seen::Unknown,
+        is_doubted: false,
     }
 }
 

@@ -42,6 +42,7 @@ fn first_known(row: Row) -> Known
         confirmed: Revision::none(),
         id: None,
         seen: Seen::Unknown,
+        is_doubted: false,
     }
 }
 

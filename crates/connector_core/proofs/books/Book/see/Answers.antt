@@ -9,7 +9,7 @@ pub see-requires-in-Group : goal.see-requires-in-Group
 see-requires-in-Group c = group-there c.self.inside.users c.self.inside.groups c.args.self.now c.self.view_is c.args.name.now c.in-Group.is c.requires
 
 pub returns-in-User : goal.returns-in-User
-returns-in-User c = user-changed c.self.inside.users c.self.inside.groups c.args.self.now c.self.view_is c.args.name.now (seeing c.args.seen) c.see.new.records c.in-User.is c.requires c.see.ensures
+returns-in-User c = user-changed c.self.inside.users c.self.inside.groups c.args.self.now c.self.view_is c.args.name.now (seeing c.args.seen c.args.is_doubted) c.see.new.records c.in-User.is c.requires c.see.ensures
 
 pub returns-in-Group : goal.returns-in-Group
-returns-in-Group c = group-changed c.self.inside.users c.self.inside.groups c.args.self.now c.self.view_is c.args.name.now (seeing c.args.seen) c.see-in-Group.new.records c.in-Group.is c.requires c.see-in-Group.ensures
+returns-in-Group c = group-changed c.self.inside.users c.self.inside.groups c.args.self.now c.self.view_is c.args.name.now (seeing c.args.seen c.args.is_doubted) c.see-in-Group.new.records c.in-Group.is c.requires c.see-in-Group.ensures

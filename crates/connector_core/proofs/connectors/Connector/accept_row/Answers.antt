@@ -4,12 +4,11 @@ use Rattle.source_csv.specs.Records.{row_name}
 use Rattle.source_csv.specs.declared.rows.Row.{Row}
 use Rattle.journal_core.specs.Entries.{EntryMap}
 use Rattle.connector_core.specs.declared.accepting.Verdict.TheVariants as verdicts
-use Rattle.connector_core.specs.Book.{AllLocated, wanting}
+use Rattle.connector_core.specs.Book.{wanting}
 use Rattle.connector_core.specs.Changing.{judging}
 use Rattle.connector_core.specs.Maps.{BookMap, book_of}
 use Rattle.connector_core.specs.State.{IsKept}
 use Rattle.connector_core.proofs.Keeping.{kept-row}
-use Rattle.connector_core.proofs.Located.{located-row}
 use Rattle.connector_core.proofs.Verdicts.{can-put, new-row, not-below}
 use Rattle.connector_core.proofs.connectors.Connector.accept_row.Goals as goal
 
@@ -18,7 +17,7 @@ put_row-requires g c =
     let J : BookMap → Type 0 = λ book. judging (book_of book) (keys book) c.args.row.now ≡ Ok verdicts.New in
     let book = ap (λ s. s.book) c.self.view_is in
     let new = new-row c.self.inside.book c.args.row.now (subst J (sym book) c.requires.new) in
-    record { lawful = λ faithful. can-put (g.J.Journal.entries c.self.inside.journal) c.self.inside.book c.args.row.now (c.self.invariant.0 faithful) new }
+    record { lawful = λ faithful. can-put (g.J.Journal.entries c.self.inside.journal) c.self.inside.book c.args.row.now (c.self.invariant faithful) new }
 
 pub invariant_of-self-in-Ok : goal.invariant_of-self-in-Ok
 invariant_of-self-in-Ok g c =
@@ -32,15 +31,12 @@ invariant_of-self-in-Ok g c =
     let held = g.J.Journal.entries c.self.inside.journal in
     let P : BookMap → Type 0 = λ b. IsKept (g.J.Journal.entries c.put_row.new.self) b in
     let Q : EntryMap → Type 0 = λ entries. IsKept entries (insert c.self.inside.book (row_name c.args.row.now) (wanting (get c.self.inside.book (row_name c.args.row.now)) c.args.row.now)) in
-    let L : BookMap → Type 0 = λ b. AllLocated (book_of b) in (
-      (λ faithful.
-          let was = c.self.invariant.0 (puts.was faithful) in
-          subst P (sym made) (subst Q (sym (puts.done faithful)) (kept-row held c.self.inside.book c.args.row.now was (not-below held c.self.inside.book c.args.row.now was new)))),
-      subst L (sym made) (located-row c.self.inside.book c.args.row.now c.self.invariant.1),
-    )
+    λ faithful.
+    let was = c.self.invariant (puts.was faithful) in
+    subst P (sym made) (subst Q (sym (puts.done faithful)) (kept-row held c.self.inside.book c.args.row.now was (not-below held c.self.inside.book c.args.row.now was new)))
 
 pub returns-in-Ok-clause-kept : goal.returns-in-Ok-clause-kept
-returns-in-Ok-clause-kept g c = (invariant_of-self-in-Ok g c).0
+returns-in-Ok-clause-kept g c = invariant_of-self-in-Ok g c
 
 pub returns-in-Ok-clause-ok : goal.returns-in-Ok-clause-ok
 returns-in-Ok-clause-ok g c =
@@ -55,13 +51,10 @@ invariant_of-self-in-Err g c =
     let puts = c.in-Err.ensures.puts in
     let P : BookMap → Type 0 = λ b. IsKept (g.J.Journal.entries c.put_row.new.self) b in
     let Q : EntryMap → Type 0 = λ entries. IsKept entries c.self.inside.book in
-    let L : BookMap → Type 0 = λ b. AllLocated (book_of b) in (
-      (λ faithful. subst P (sym out) (subst Q (sym (puts.same faithful)) (c.self.invariant.0 (puts.was faithful)))),
-      subst L (sym out) c.self.invariant.1,
-    )
+    λ faithful. subst P (sym out) (subst Q (sym (puts.same faithful)) (c.self.invariant (puts.was faithful)))
 
 pub returns-in-Err-clause-kept : goal.returns-in-Err-clause-kept
-returns-in-Err-clause-kept g c = (invariant_of-self-in-Err g c).0
+returns-in-Err-clause-kept g c = invariant_of-self-in-Err g c
 
 pub returns-in-Err-clause-err : goal.returns-in-Err-clause-err
 returns-in-Err-clause-err g c = c.take_back.ensures ∙ c.in_ok-note.ensures.back ∙ ap (λ s. s.book) c.self.view_is

@@ -51,7 +51,7 @@ returns-in-Ok-New-clause-leaves g c = λ honest was.
     let N : BookMap → Type 0 = λ b. judging (book_of b) (keys b) c.args.row ≡ Ok verdicts.New in
     let new = subst N (ap (λ s. s.book) c.self.view_is) (rw c.in-Ok-New.field-0-is at c.in-Ok-New.ensures.gives) in
     let K : State g.row.J.Denot → Type 0 = λ s. h.is_faithful s.journal → IsKept (h.entries s.journal) s.book in
-    let kept = subst K c.self.view_is c.self.invariant.0 in
+    let kept = subst K c.self.view_is c.self.invariant in
     let accepted = c.accept_row.ensures in
     written h c.args.self.now c.accept_row.new.self (with_row entries c.args.row) _ _ c.accept_row.result
     (open-done h c.accept_row.new.self c.accept_row.result (g.met.J.Journal.settled c.accept_row.new.self.journal) accepted.kept (accepted.open honest))

@@ -8,7 +8,7 @@ use Rattle.connector_core.specs.Maps.{BookMap, book_of}
 use Rattle.connector_core.specs.State.{AreOf, LeavesBook, LeavesOneOf, State}
 use Rattle.connector_core.specs.declared.changing.ChangeFault.{ChangeFault}
 use Rattle.connector_core.proofs.Leaving.{are-of, of-none, open-leaves}
-use Rattle.connector_core.proofs.Offered.{can-put-fresh, keeps-fresh, located-fresh, nothing, puts-fresh}
+use Rattle.connector_core.proofs.Offered.{can-put-fresh, keeps-fresh, nothing, puts-fresh}
 use Rattle.connector_core.proofs.Writing.{put-done, put-failed, unchanged}
 use Rattle.connector_core.proofs.connectors.Connector.change_all.Goals as goal
 
@@ -16,13 +16,11 @@ pub invariant_of-self-then-is_empty : goal.invariant_of-self-then-is_empty
 invariant_of-self-then-is_empty g c =
     let none = sym (nothing c.as_slice.result.now (sym c.is_empty.ensures ∙ c.if-is_empty.true)) ∙ c.as_slice.ensures.value in
     let held = g.J.Journal.entries c.self.inside.journal in
-    let are = c.in_ok-said.ensures.ok in (
-      (λ faithful. keeps-fresh held c.self.inside.book c.offer.new.book c.args.rows.items c.in_ok-said.field-0 are [] held none refl (c.self.invariant.0 faithful)),
-      located-fresh held c.self.inside.book c.offer.new.book c.args.rows.items c.in_ok-said.field-0 are c.self.invariant.1,
-    )
+    let are = c.in_ok-said.ensures.ok in
+    λ faithful. keeps-fresh held c.self.inside.book c.offer.new.book c.args.rows.items c.in_ok-said.field-0 are [] held none refl (c.self.invariant faithful)
 
 pub returns-then-is_empty-clause-kept : goal.returns-then-is_empty-clause-kept
-returns-then-is_empty-clause-kept g c = (invariant_of-self-then-is_empty g c).0
+returns-then-is_empty-clause-kept g c = invariant_of-self-then-is_empty g c
 
 pub returns-then-is_empty-clause-journal : goal.returns-then-is_empty-clause-journal
 returns-then-is_empty-clause-journal g c =
@@ -37,20 +35,18 @@ returns-then-is_empty-clause-journal g c =
 pub put_rows-requires : goal.put_rows-requires
 put_rows-requires g c =
     let held = g.J.Journal.entries c.self.inside.journal in
-    record { lawful = λ faithful. can-put-fresh held c.self.inside.book c.offer.new.book c.args.rows.items c.in_ok-said.field-0 c.in_ok-said.ensures.ok c.in_ok-said.field-0.fresh.items refl (c.self.invariant.0 faithful) }
+    record { lawful = λ faithful. can-put-fresh held c.self.inside.book c.offer.new.book c.args.rows.items c.in_ok-said.field-0 c.in_ok-said.ensures.ok c.in_ok-said.field-0.fresh.items refl (c.self.invariant faithful) }
 
 pub invariant_of-self-in-Ok-1 : goal.invariant_of-self-in-Ok-1
 invariant_of-self-in-Ok-1 g c =
     let held = g.J.Journal.entries c.self.inside.journal in
     let puts = c.in-Ok.ensures.puts in
-    let are = c.in_ok-said.ensures.ok in (
-      (λ faithful. keeps-fresh held c.self.inside.book c.offer.new.book c.args.rows.items c.in_ok-said.field-0 are c.in_ok-said.field-0.fresh.items (g.J.Journal.entries c.put_rows.new.self)
-          refl (puts.done faithful) (c.self.invariant.0 (puts.was faithful))),
-      located-fresh held c.self.inside.book c.offer.new.book c.args.rows.items c.in_ok-said.field-0 are c.self.invariant.1,
-    )
+    let are = c.in_ok-said.ensures.ok in
+    λ faithful. keeps-fresh held c.self.inside.book c.offer.new.book c.args.rows.items c.in_ok-said.field-0 are c.in_ok-said.field-0.fresh.items (g.J.Journal.entries c.put_rows.new.self)
+    refl (puts.done faithful) (c.self.invariant (puts.was faithful))
 
 pub returns-in-Ok-clause-kept : goal.returns-in-Ok-clause-kept
-returns-in-Ok-clause-kept g c = (invariant_of-self-in-Ok-1 g c).0
+returns-in-Ok-clause-kept g c = invariant_of-self-in-Ok-1 g c
 
 pub returns-in-Ok-clause-journal : goal.returns-in-Ok-clause-journal
 returns-in-Ok-clause-journal g c =
@@ -105,7 +101,7 @@ returns-in-Err-clause-leaves g c = λ honest was.
       | inl old ↦ inl (before found old)
       | inr new ↦
           let B : BookMap → Type 0 = λ b. AreOf found (book_of b) (keys b) in
-          let kept = keeps-fresh held book c.offer.new.book c.args.rows.items c.in_ok-said.field-0 are put found refl new.1 (c.self.invariant.0 new.0) in
+          let kept = keeps-fresh held book c.offer.new.book c.args.rows.items c.in_ok-said.field-0 are put found refl new.1 (c.self.invariant new.0) in
           inr (subst B are.taken (are-of found c.offer.new.book kept))
     ] in
     record { done = tt; failed = subst P c.self.view_is left }

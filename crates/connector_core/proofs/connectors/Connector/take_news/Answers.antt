@@ -1,14 +1,13 @@
 use Rattle.std.proofs.Common.{◌≡◌, ap, subst, sym}
 use Rattle.std.specs.FinMap.{get, keys}
 use Rattle.journal_core.specs.Entries.{EntryMap}
-use Rattle.connector_core.specs.Book.{AllLocated, learning}
+use Rattle.connector_core.specs.Book.{learning}
 use Rattle.connector_core.specs.Maps.{BookMap, book_of, changed}
 use Rattle.connector_core.specs.Noting.{IsNewsAt, IsNewsOf, after_news}
 use Rattle.connector_core.specs.State.{AreOf, IsKept, LeavesBook, State}
 use Rattle.connector_core.specs.declared.fitting.News.{News}
 use Rattle.connector_core.proofs.Leaving.{of-seen, open-leaves}
 use Rattle.connector_core.proofs.Lessons.{kept-learnt, kept-seen, news-at, same-book}
-use Rattle.connector_core.proofs.Located.{located-news}
 use Rattle.connector_core.proofs.connectors.Connector.take_news.Goals as goal
 
 pub invariant_of-self-in-Lasting : goal.invariant_of-self-in-Lasting
@@ -21,14 +20,10 @@ invariant_of-self-in-Lasting g c =
     let puts = c.in_ok-put_learnt-in-Lasting.ensures.puts in
     let P : BookMap → Type 0 = λ b. IsKept (g.J.Journal.entries c.put_learnt.new.self) b in
     let Q : EntryMap → Type 0 = λ es. IsKept es (changed (learning c.in-Lasting.confirmed c.in-Lasting.id c.in-Lasting.seen) book c.args.name.now) in
-    let L : News → Type 0 = λ n. AllLocated (book_of (changed (after_news n) book c.args.name.now)) in
-    let B : BookMap → Type 0 = λ b. AllLocated (book_of b) in (
-      (λ faithful.
-          let was = c.self.invariant.0 (puts.was faithful) in
-          subst P (sym c.learn.ensures) (subst Q (sym (puts.done faithful))
-          (kept-learnt (g.J.Journal.entries c.self.inside.journal) book c.args.name.now found.0 was found.1 c.in-Lasting.confirmed c.in-Lasting.id c.in-Lasting.seen keeps))),
-      subst B (sym c.learn.ensures) (subst L c.in-Lasting.is (located-news book c.args.name.now c.args.news c.self.invariant.1 here)),
-    )
+    λ faithful.
+    let was = c.self.invariant (puts.was faithful) in
+    subst P (sym c.learn.ensures) (subst Q (sym (puts.done faithful))
+    (kept-learnt (g.J.Journal.entries c.self.inside.journal) book c.args.name.now found.0 was found.1 c.in-Lasting.confirmed c.in-Lasting.id c.in-Lasting.seen keeps))
 
 pub invariant_of-self-in-Passing : goal.invariant_of-self-in-Passing
 invariant_of-self-in-Passing g c =
@@ -37,17 +32,14 @@ invariant_of-self-in-Passing g c =
     let here = subst N (sym (ap (λ s. s.book) c.self.view_is)) c.requires in
     let found = news-at (get book c.args.name.now) c.args.news here in
     let P : BookMap → Type 0 = λ b. IsKept (g.J.Journal.entries c.self.inside.journal) b in
-    let L : News → Type 0 = λ n. AllLocated (book_of (changed (after_news n) book c.args.name.now)) in
-    let B : BookMap → Type 0 = λ b. AllLocated (book_of b) in (
-      (λ faithful. subst P (sym c.see.ensures) (kept-seen (g.J.Journal.entries c.self.inside.journal) book c.args.name.now found.0 (c.self.invariant.0 faithful) found.1 c.in-Passing.seen)),
-      subst B (sym c.see.ensures) (subst L c.in-Passing.is (located-news book c.args.name.now c.args.news c.self.invariant.1 here)),
-    )
+    λ faithful. subst P (sym c.see.ensures)
+    (kept-seen (g.J.Journal.entries c.self.inside.journal) book c.args.name.now found.0 (c.self.invariant faithful) found.1 c.in-Passing.seen c.in-Passing.is_doubted)
 
 pub returns-in_ok-put_learnt-in-Lasting-clause-kept : goal.returns-in_ok-put_learnt-in-Lasting-clause-kept
-returns-in_ok-put_learnt-in-Lasting-clause-kept g c = (invariant_of-self-in-Lasting g c).0
+returns-in_ok-put_learnt-in-Lasting-clause-kept g c = invariant_of-self-in-Lasting g c
 
 pub returns-in-Passing-clause-kept : goal.returns-in-Passing-clause-kept
-returns-in-Passing-clause-kept g c = (invariant_of-self-in-Passing g c).0
+returns-in-Passing-clause-kept g c = invariant_of-self-in-Passing g c
 
 pub returns-in-Nothing-clause-ok : goal.returns-in-Nothing-clause-ok
 returns-in-Nothing-clause-ok g c =
@@ -69,4 +61,4 @@ returns-in-Passing-clause-leaves g c = λ honest was found holds.
     let W : State g.row.J.Denot → Type 0 = λ s. LeavesBook g.J.Journal s in
     let before = subst W (sym c.self.view_is) was in
     let B : BookMap → Type 0 = λ b. AreOf found (book_of b) (keys b) in
-    subst B (sym c.see.ensures) (of-seen found book c.args.name.now known.0 c.in-Passing.seen known.1 (before found holds))
+    subst B (sym c.see.ensures) (of-seen found book c.args.name.now known.0 c.in-Passing.seen c.in-Passing.is_doubted known.1 (before found holds))
