@@ -1,9 +1,10 @@
 -- When a record is done, and what the connector asks for until then.
-use Rattle.std.proofs.Common.{◌≡◌, ℕ, suc, Bool, true, false, cond, List, [], ◌∷◌, map, Option, Some, Result, Ok, refl, ap, inl, inr, ◌∙◌, subst}
+use Rattle.std.proofs.Common.{◌≡◌, ℕ, suc, Bool, true, false, not, ◌&&◌, cond, List, [], ◌∷◌, map, Option, Some, Result, Ok, refl, ap, inl, inr, ◌∙◌, subst}
+use Rattle.std.proofs.lemmas.Bool.{and_parts}
 use Rattle.std.specs.Option.{option_map}
 use Rattle.std.specs.Result.{result_ok}
 use Rattle.scim_key.proofs.RevisionLaws.{same, total, later_above_second, later_is_one}
-use Rattle.scim_key.specs.Revisions.{RevisionValue, later, ◌≼◌}
+use Rattle.scim_key.specs.Revisions.{RevisionValue, later, same_revision, ◌≼◌}
 use Rattle.scim_key.specs.declared.records.Kind.TheVariants as kinds
 use Rattle.scim_key.specs.declared.records.RecordName.{RecordName}
 use Rattle.scim_resource.specs.Contents.{content_name}
@@ -30,11 +31,13 @@ use Rattle.world_model.proofs.Imaging.{image_name, image_revision}
 abbrev pub IsDone : Known → Type 0
 IsDone known = is_done known ≡ true
 
-pub done_if : (known : Known) → known.confirmed ≡ row_revision known.wanted → IsDone known
-done_if known equal = (same known.confirmed (row_revision known.wanted)).1 equal
+pub done_if : (known : Known) → known.is_doubted ≡ false → known.confirmed ≡ row_revision known.wanted → IsDone known
+done_if known sure equal =
+    ap (λ (b : Bool). not b && same_revision known.confirmed (row_revision known.wanted)) sure ∙ (same known.confirmed (row_revision known.wanted)).1 equal
 
 pub if_done : (known : Known) → IsDone known → known.confirmed ≡ row_revision known.wanted
-if_done known done = (same known.confirmed (row_revision known.wanted)).0 done
+if_done known done =
+    (same known.confirmed (row_revision known.wanted)).0 (and_parts (not known.is_doubted) (same_revision known.confirmed (row_revision known.wanted)) done).1
 
 -- if c is up to w, w is the later of the two
 pub later_top : (c w : RevisionValue) → c ≼ w → later c w ≡ w
@@ -80,7 +83,7 @@ members_imaged id_of (Group row) each =
 -- ---- asked for
 
 pub asked : (book : Book) (name : RecordName) (known : Known) (content : Content) → book name ≡ Some known → is_done known ≡ false → HasImage book known content
-    → asking book name ≡ Some (Send (request_for known.seen known.id known.wanted content))
+    → asking book name ≡ Some (Send (request_for known.seen known.wanted content))
 asked book name known content in_book undone has =
     ap (option_map (asking_of book)) in_book
     ∙ ap (λ (b : Bool). Some (cond b Nothing (asking_with (imaged (known_id book) known.wanted) known))) undone

@@ -22,7 +22,7 @@ use Rattle.connector_core.specs.declared.asking.Ask.{Ask}
 use Rattle.connector_core.specs.declared.asking.Ask.TheVariants.{Nothing, Waits, Send}
 use Rattle.connector_core.specs.declared.changing.ChangeFault.{ChangeFault}
 use Rattle.connector_core.specs.declared.knowledge.Known.{Known}
-use Rattle.world_model.specs.World.{World, Message, Asked, Answered, Event, Changes, Sends, Delivers, Cuts, Restarts_provider, Restarts_connector, changes, sends, delivers, message_at, happens, empty, judged, run}
+use Rattle.world_model.specs.World.{World, Message, Asked, Answered, Event, Changes, Sends, Delivers, Cuts, Restarts_provider, Restarts_connector, Doubts, changes, sends, delivers, message_at, happens, empty, judged, run}
 use Rattle.world_model.specs.Safe.{IsAt, Has}
 use Rattle.world_model.specs.Untroubled.{IsLawful}
 use Rattle.world_model.proofs.Accepting.{new_by_source}
@@ -69,6 +69,7 @@ event_members w (Delivers number) inv members = delivers_members w (message_at w
 event_members w (Cuts number length) inv members = members
 event_members w Restarts_provider inv members = members
 event_members w Restarts_connector inv members = members
+event_members w (Doubts name) inv members = members
 
 run_members : (w : World) (events : List Event) → Invariant w → MembersAreUsers w.history → MembersAreUsers (run w events).history
 run_members w [] inv members = members
@@ -97,17 +98,17 @@ pub calm_among : (ours : Names) (all : List Act) → KeepsApart ours all → All
 calm_among ours all apart law room =
     among_calm empty all apart law room (record { quiet = none_quiet ours; room = room_was_there empty all room; members = tt })
 
-all_at : {X : Type 0} (P : X → Type 0) (xs : List X) (i : ℕ) (x : X) → AllByRecursion P xs → IsAt xs i x → P x
+pub all_at : {X : Type 0} (P : X → Type 0) (xs : List X) (i : ℕ) (x : X) → AllByRecursion P xs → IsAt xs i x → P x
 all_at P [] i x all at = absurd (cc)
 all_at P (y ∷ ys) zero x all at = let same : y ≡ x = cc in subst P same all.0
 all_at P (y ∷ ys) (suc i) x all at = all_at P ys i x all.1 at
 
-each_passes : {X : Type 0} (p : X → Bool) (xs : List X) (i : ℕ) (x : X) → list_all p xs ≡ true → IsAt xs i x → p x ≡ true
+pub each_passes : {X : Type 0} (p : X → Bool) (xs : List X) (i : ℕ) (x : X) → list_all p xs ≡ true → IsAt xs i x → p x ≡ true
 each_passes p [] i x all at = absurd (cc)
 each_passes p (y ∷ ys) zero x all at = let same : y ≡ x = cc in ap p (sym same) ∙ (and_parts (p y) (list_all p ys) all).0
 each_passes p (y ∷ ys) (suc i) x all at = each_passes p ys i x (and_parts (p y) (list_all p ys) all).1 at
 
-last_known : (o : Option Known) (q : Option Row) → option_map (λ k. k.wanted) o ≡ q → is_some q ≡ true → (known : Known) × (o ≡ Some known)
+pub last_known : (o : Option Known) (q : Option Row) → option_map (λ k. k.wanted) o ≡ q → is_some q ≡ true → (known : Known) × (o ≡ Some known)
 last_known None q is there = absurd (cc)
 last_known (Some known) q is there = (known, refl)
 
@@ -141,7 +142,7 @@ IsNamed history q = (row : Row) × Has history row × (row_name row ≡ q)
 later_named : (row : Row) (rows : History) (q : RecordName) → IsNamed rows q → IsNamed (row ∷ rows) q
 later_named row rows q (r, has, named) = (r, (suc has.0, has.1), named)
 
-named_row : (names : List RecordName) (rows : History) (q : RecordName) → Has (names_with names rows) q → Has names q ⊎ IsNamed rows q
+pub named_row : (names : List RecordName) (rows : History) (q : RecordName) → Has (names_with names rows) q → Has names q ⊎ IsNamed rows q
 named_row names [] q has = inl has
 named_row names (row ∷ rows) q has = elim (named_row (insert_key name_cmp names (row_name row)) rows q has) [
   | inl before ↦ elim (has_with names (row_name row) q before) [
@@ -151,7 +152,7 @@ named_row names (row ∷ rows) q has = elim (named_row (insert_key name_cmp name
   | inr later ↦ inr (later_named row rows q later)
 ]
 
-some_known : (o : Option Known) (row : Row) → option_map (λ k. k.wanted) o ≡ Some row → (known : Known) × (o ≡ Some known)
+pub some_known : (o : Option Known) (row : Row) → option_map (λ k. k.wanted) o ≡ Some row → (known : Known) × (o ≡ Some known)
 some_known None row is = absurd (cc)
 some_known (Some known) row is = (known, refl)
 

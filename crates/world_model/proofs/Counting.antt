@@ -91,7 +91,7 @@ with_there (x ∷ xs) (suc i) name order at =
     let after : name_cmp name x ≡ Greater = turned x name Less (all_has (Comes x) xs i name order.0 at) in
     ap (λ r. placed r name x xs (with_name xs name)) after ∙ ap (λ names. x ∷ names) (with_there xs i name order.1 at)
 
-has_old : (names : List RecordName) (name : RecordName) (i : ℕ) (other : RecordName) → IsAt names i other → Has (with_name names name) other
+pub has_old : (names : List RecordName) (name : RecordName) (i : ℕ) (other : RecordName) → IsAt names i other → Has (with_name names name) other
 has_old [] name i other at = absurd (cc)
 has_old (x ∷ xs) name i other at = go (name_cmp name x) i at (λ k. has_old xs name k other)
   where
@@ -101,7 +101,7 @@ has_old (x ∷ xs) name i other at = go (name_cmp name x) i at (λ k. has_old xs
     go Greater zero at later = (0, at)
     go Greater (suc k) at later = let rest = later k at in (suc rest.0, rest.1)
 
-has_new : (names : List RecordName) (name : RecordName) → Has (with_name names name) name
+pub has_new : (names : List RecordName) (name : RecordName) → Has (with_name names name) name
 has_new [] name = (0, refl)
 has_new (x ∷ xs) name = go (name_cmp name x) refl (has_new xs name)
   where

@@ -1,41 +1,23 @@
 -- A record whose wanted revision is confirmed is settled.
-use Rattle.std.proofs.Common.{◌≡◌, ◌≢◌, ℕ, zero, suc, true, List, [], ◌∷◌, length, Some, None, ◌⊎◌, inl, inr, ap, sym, ◌∙◌, subst}
-use Rattle.std.specs.List.{AllByRecursion, last_or}
+use Rattle.std.proofs.Common.{◌≡◌, ◌≢◌, true, length, Some, inl, inr, ap, sym, ◌∙◌, subst}
 use Rattle.scim_key.proofs.RevisionLaws.{irreflexive, none_before}
 use Rattle.scim_key.specs.Revisions.{RevisionValue, no_revision, before, ◌≺◌}
 use Rattle.scim_key.specs.declared.records.RecordName.{RecordName}
 use Rattle.provider_core.proofs.TableLaws.{held_at}
 use Rattle.source_csv.specs.Records.{row_revision}
-use Rattle.source_csv.specs.declared.rows.Row.{Row}
 use Rattle.mapping.specs.Images.{image}
-use Rattle.connector_core.specs.History.{Rises, rows_of}
+use Rattle.connector_core.specs.History.{rows_of}
 use Rattle.connector_core.specs.declared.knowledge.Known.{Known}
-use Rattle.world_model.specs.Safe.{IsAt, Has, id_in}
+use Rattle.world_model.specs.Safe.{Has, id_in}
 use Rattle.world_model.specs.Settled.{IsSettledOf}
 use Rattle.world_model.specs.World.{World}
 use Rattle.world_model.proofs.Asked.{IsDone, if_done}
 use Rattle.world_model.proofs.Keeping.{none_above_held}
-use Rattle.world_model.proofs.Lists.{last_has}
 use Rattle.world_model.specs.Invariant.{Names, HasVersion}
 use Rattle.world_model.proofs.Phases.{is_last, its_law, its_ours}
 use Rattle.world_model.proofs.Quiet.{QuietAmong}
 use Rattle.world_model.proofs.Ranking.{lawful_revision}
-
-above_all : (r : RevisionValue) (rows : List Row) (i : ℕ) (row : Row) → AllByRecursion (λ later. r ≺ row_revision later) rows → IsAt rows i row → r ≺ row_revision row
-above_all r [] i row all at = absurd (cc)
-above_all r (s ∷ rows) zero row all at = let same : s ≡ row = cc in subst (λ (x : Row). r ≺ row_revision x) same all.0
-above_all r (s ∷ rows) (suc i) row all at = above_all r rows i row all.1 at
-
--- each row of a record is the last, or of a lower revision
-last_or_below : (rows : List Row) (i : ℕ) (row last : Row) → Rises rows → IsAt rows i row → last_or None rows ≡ Some last → (row ≡ last) ⊎ (row_revision row ≺ row_revision last)
-last_or_below [] i row last rises at is = absurd (cc)
-last_or_below (r ∷ []) zero row last rises at is = inl (cc)
-last_or_below (r ∷ []) (suc i) row last rises at is = absurd (cc)
-last_or_below (r ∷ s ∷ rows) zero row last rises at is =
-    let same : r ≡ row = cc in
-    let there = last_has (s ∷ rows) last is in
-    inr (subst (λ (x : Row). row_revision x ≺ row_revision last) same (above_all (row_revision r) (s ∷ rows) there.0 last rises.0 there.1))
-last_or_below (r ∷ s ∷ rows) (suc i) row last rises at is = last_or_below (s ∷ rows) i row last rises.1 at is
+use Rattle.world_model.proofs.Rows.{last_or_below}
 
 module _ {ours : Names} (w : World) (q : QuietAmong ours w) (name : RecordName) (known : Known) (in_book : w.book name ≡ Some known) (done : IsDone known) where
   confirmed : known.confirmed ≡ row_revision known.wanted

@@ -1,11 +1,15 @@
 -- What is true after every event, and after every act of ours and others.
-use Rattle.std.proofs.Common.{◌≡◌, ℕ, zero, suc, true, List, [], ◌∷◌, Option, Some, None, Result, Ok, Err, inl, inr, refl, ap, sym, ◌∙◌, subst}
+use Rattle.std.proofs.Common.{◌≡◌, ℕ, zero, suc, true, false, List, [], ◌∷◌, Option, Some, None, Result, Ok, Err, inl, inr, refl, ap, sym, ◌∙◌, subst}
 use Rattle.std.specs.Option.{option_map}
-use Rattle.scim_key.specs.Revisions.{◌≺◌}
+use Rattle.scim_key.specs.Revisions.{RevisionValue, ◌≺◌}
 use Rattle.scim_key.specs.declared.records.RecordName.{RecordName}
 use Rattle.scim_message.specs.declared.messages.Request.{Request}
 use Rattle.scim_message.specs.declared.messages.Answer.{Answer}
+use Rattle.scim_resource.specs.Contents.{content_name}
+use Rattle.scim_resource.specs.Rows.{ShownRecord}
+use Rattle.mapping.specs.Images.{image}
 use Rattle.provider_core.specs.Stories.{step}
+use Rattle.provider_core.specs.Tables.{IsFact}
 use Rattle.provider_core.proofs.StoryLaws.{stories_only_grow}
 use Rattle.provider_core.proofs.TableLaws.{at_more, at_push, go_on_staying, tables_stay_whole, answers_show_facts}
 use Rattle.source_csv.specs.Records.{row_name, row_revision}
@@ -19,18 +23,28 @@ use Rattle.connector_core.specs.Asking.{asking}
 use Rattle.connector_core.specs.declared.asking.Ask.{Ask}
 use Rattle.connector_core.specs.declared.asking.Ask.TheVariants.{Nothing, Waits, Send}
 use Rattle.connector_core.specs.declared.changing.ChangeFault.{ChangeFault}
+use Rattle.connector_core.specs.Book.{known_id, doubted, reopened}
+use Rattle.connector_core.specs.History.{last_row, rows_of}
+use Rattle.connector_core.specs.Learning.{content_revision, is_wanted, learn, after_learning}
 use Rattle.connector_core.specs.declared.knowledge.Known.{Known}
-use Rattle.world_model.specs.World.{World, Message, Asked, Answered, Event, Changes, Sends, Delivers, Cuts, Restarts_provider, Restarts_connector, changes, sends, arrives, delivers, message_at, happens, empty, judged, run}
-use Rattle.world_model.specs.Safe.{IsAt}
-use Rattle.world_model.specs.Invariant.{Names, all_names, AllOurs, Follows, Kept, AskedTruly, ShowsTruly, InvariantOf, Invariant, EventsKeepIt, AlwaysKept, FactsStay}
+use Rattle.world_model.specs.World.{World, Message, Asked, Answered, Event, Changes, Sends, Delivers, Cuts, Restarts_provider, Restarts_connector, Doubts, changes, sends, arrives, delivers, message_at, happens, empty, judged, run}
+use Rattle.world_model.specs.Untroubled.{request_content}
+use Rattle.world_model.specs.Safe.{IsAt, Has}
+use Rattle.world_model.specs.Invariant.{Names, all_names, AllOurs, Follows, Kept, ShowsTruly, InvariantOf, Invariant, EventsKeepIt, AlwaysKept, FactsStay}
 use Rattle.world_model.specs.Others.{Act, Ours, Theirs, acts, run_among, OfOurs, IsApart, KeepsApart, ActsKeepIt}
 use Rattle.world_model.proofs.Onwards.{run_on}
 use Rattle.world_model.proofs.Judging.{event_follows, judged_by_source}
 use Rattle.world_model.proofs.Accepting.{rows_stay, new_by_source}
+use Rattle.world_model.proofs.Comparing.{image_wanted, imaged_if}
+use Rattle.world_model.proofs.Imaging.{image_revision}
 use Rattle.world_model.proofs.Growing.{Grows, image_grows}
 use Rattle.world_model.proofs.Keeping.{WritesTruly, if_asked, if_alone, step_grows, step_keeps}
-use Rattle.world_model.proofs.Noting.{all_noted_grow, row_noted, reopened_noted, learning_noted}
-use Rattle.world_model.proofs.Sending.{what_is_asked}
+use Rattle.world_model.proofs.Lists.{last_has}
+use Rattle.world_model.proofs.Making.{all_made_more, with_row_ids, reopened_ids, doubted_ids, asks_made, sent_made, WritesMade, alone_made, step_made}
+use Rattle.world_model.proofs.Noting.{Compares, all_noted_grow, row_noted, reopened_noted, doubted_noted, learning_noted, learning_keeps_ids}
+use Rattle.world_model.proofs.Ranking.{record_ours}
+use Rattle.world_model.proofs.Rows.{last_or_below}
+use Rattle.world_model.proofs.Sending.{what_is_asked, row_of_record, wanted_of}
 use Rattle.world_model.proofs.Telling.{all_told_grow, told_push}
 
 -- ---- a row is offered
@@ -68,6 +82,7 @@ module _ {ours : Names} (w : World) (row : Row) (its : ours (row_name row) ≡ t
     kept = new_kept;
     noted = row_noted w.entries w.book row above inv.noted;
     told = all_told_grow w.history w.entries (with_new w row).history w.entries new_grows w.messages inv.told;
+    made = all_made_more w.history (with_new w row).history w.entries w.book (with_new w row).book w.messages (λ name r has. rows_stay w.history row name r has) (with_row_ids w.book row) inv.made;
   }
 
 changes_inv : {ours : Names} (w : World) (row : Row) (v : Result Verdict ChangeFault) → ours (row_name row) ≡ true → InvariantOf ours w → judged w row ≡ v
@@ -90,11 +105,14 @@ sends_inv w name (Some (Send request)) inv is = record {
   kept = inv.kept;
   noted = inv.noted;
   told = told_push w.history w.entries w.messages (Asked request) inv.told (what_is_asked w.history w.entries w.book inv.follows inv.noted name request is);
+  made = sent_made w.history w.entries w.book w.messages (Asked request) (λ r content same asked.
+      let equal : request ≡ r = cc in
+      asks_made w.history w.book inv.follows name request content is (ap request_content equal ∙ asked)) inv.made;
 }
 
 -- the table after a request
-step_inv : {ours : Names} (w : World) (request : Request) → InvariantOf ours w → WritesTruly ours w.history w.entries request → InvariantOf ours (acts w (Theirs request))
-step_inv w request inv asked =
+step_inv : {ours : Names} (w : World) (request : Request) → InvariantOf ours w → WritesTruly ours w.history w.entries request → WritesMade ours w.history w.book request → InvariantOf ours (acts w (Theirs request))
+step_inv {ours} w request inv asked made =
     let after = step w.entries request in
     record {
       mine = inv.mine;
@@ -103,12 +121,14 @@ step_inv w request inv asked =
       kept = step_keeps w.history w.entries request inv.kept asked;
       noted = all_noted_grow w.entries after.entries w.book (stories_only_grow w.entries request) (tables_stay_whole w.entries request inv.kept.whole) inv.noted;
       told = all_told_grow w.history w.entries w.history after.entries (step_grows w.history w.entries request inv.kept.whole) w.messages inv.told;
+      made = step_made ours w.history w.book w.entries w.messages request made inv.made;
     }
 
-request_inv : {ours : Names} (w : World) (request : Request) → InvariantOf ours w → AskedTruly w.history w.entries request → InvariantOf ours (arrives w (Asked request))
-request_inv {ours} w request inv asked =
+request_inv : {ours : Names} (w : World) (request : Request) → InvariantOf ours w → Has w.messages (Asked request) → InvariantOf ours (arrives w (Asked request))
+request_inv {ours} w request inv there =
     let after = step w.entries request in
-    let on = step_inv w request inv (if_asked ours w.history w.entries request asked) in
+    let asked = inv.told there.0 (Asked request) there.1 in
+    let on = step_inv w request inv (if_asked ours w.history w.entries request asked) (λ content is mine. inv.made.asked request content there is) in
     record {
       mine = on.mine;
       rising = on.rising;
@@ -116,7 +136,36 @@ request_inv {ours} w request inv asked =
       kept = on.kept;
       noted = on.noted;
       told = told_push w.history after.entries w.messages (Answered request after.answer) on.told (answers_show_facts w.entries request);
+      made = sent_made w.history after.entries w.book w.messages (Answered request after.answer) (λ r content same asked. absurd (cc)) on.made;
     }
+
+-- what is shown of a record may be compared with its wanted row
+pub compares_of : {ours : Names} (w : World) → InvariantOf ours w → (name : RecordName) (known : Known) → w.book name ≡ Some known → Compares w.entries w.book name known
+compares_of {ours} w inv name known in_book = record { named = its_name; below = below }
+  where
+    is_last : last_row w.history name ≡ Some known.wanted
+    is_last = sym (inv.follows name) ∙ wanted_of (w.book name) known in_book
+
+    accepted : Has (rows_of w.history name) known.wanted
+    accepted = last_has (rows_of w.history name) known.wanted is_last
+
+    its_name : row_name known.wanted ≡ name
+    its_name = row_of_record w.history name known.wanted accepted
+
+    below : (s : ShownRecord) → IsFact w.entries s → name ≡ content_name s.content → is_wanted w.book known s.content ≡ false
+        → (r : RevisionValue) × (content_revision s.content ≡ Some r) × (r ≺ row_revision known.wanted)
+    below s fact named other =
+        let of_record : fact.entry.name ≡ name = sym (named ∙ inv.kept.whole.named fact.place fact.turn fact.entry s.content fact.here fact.held) in
+        let mine : ours fact.entry.name ≡ true = ap ours of_record ∙ record_ours ours w.history inv.mine name known.wanted accepted in
+        let made = inv.made.held fact.entry s.content (fact.place, fact.here) mine (fact.turn, fact.held) in
+        let there : Has (rows_of w.history name) made.row = subst (λ (n : RecordName). Has (rows_of w.history n) made.row) of_record made.accepted in
+        elim (last_or_below (rows_of w.history name) there.0 made.row known.wanted (inv.rising name) there.1 is_last) [
+          | inl same ↦
+              let test = image_wanted w.book known s.content (imaged_if (known_id w.book) known.wanted s.content (ap (image (known_id w.book)) (sym same) ∙ made.image)) in
+              let clash : true ≡ false = sym test ∙ other in
+              absurd (cc)
+          | inr lower ↦ (row_revision made.row, image_revision (known_id w.book) made.row s.content made.image, lower)
+        ]
 
 reply_inv : {ours : Names} (w : World) (request : Request) (answer : Answer) → InvariantOf ours w → ShowsTruly w.entries answer → Follows (arrives w (Answered request answer)).book w.history
     → InvariantOf ours (arrives w (Answered request answer))
@@ -125,8 +174,10 @@ reply_inv w request answer inv shows follows = record {
   rising = inv.rising;
   follows = follows;
   kept = inv.kept;
-  noted = learning_noted w.entries w.book request answer inv.kept.whole shows inv.noted;
+  noted = learning_noted w.entries w.book request answer inv.kept.whole shows (compares_of w inv) inv.noted;
   told = inv.told;
+  made = all_made_more w.history w.history w.entries w.book (after_learning w.book (learn w.book request answer)) w.messages (λ name row has. has)
+      (learning_keeps_ids w.entries w.book request answer inv.kept.whole shows (compares_of w inv) inv.noted) inv.made;
 }
 
 pub message_there : (messages : List Message) (number : ℕ) (message : Message) → message_at messages number ≡ Some message → (i : ℕ) × IsAt messages i message
@@ -137,7 +188,7 @@ delivers_inv : {ours : Names} (w : World) (number : ℕ) (o : Option Message) �
     → Follows (delivers w o).book (delivers w o).history → InvariantOf ours (delivers w o)
 delivers_inv w number None inv is follows = inv
 delivers_inv w number (Some (Asked request)) inv is follows =
-    let (i, at) = message_there w.messages number (Asked request) is in request_inv w request inv (inv.told i (Asked request) at)
+    let (i, at) = message_there w.messages number (Asked request) is in request_inv w request inv (i, at)
 delivers_inv w number (Some (Answered request answer)) inv is follows =
     let (i, at) = message_there w.messages number (Answered request answer) is in reply_inv w request answer inv (inv.told i (Answered request answer) at) follows
 
@@ -156,6 +207,16 @@ of_ours_inv w Restarts_connector its inv = record {
   kept = inv.kept;
   noted = reopened_noted w.entries w.book inv.noted;
   told = inv.told;
+  made = all_made_more w.history w.history w.entries w.book (reopened w.book) w.messages (λ name row has. has) (reopened_ids w.book) inv.made;
+}
+of_ours_inv w (Doubts name) its inv = record {
+  mine = inv.mine;
+  rising = inv.rising;
+  follows = event_follows w (Doubts name) inv.follows;
+  kept = inv.kept;
+  noted = doubted_noted w.entries w.book name inv.noted;
+  told = inv.told;
+  made = all_made_more w.history w.history w.entries w.book (doubted w.book name) w.messages (λ q row has. has) (doubted_ids w.book name) inv.made;
 }
 
 -- every event is of ours if every record is
@@ -166,6 +227,7 @@ all_of_ours (Delivers number) = tt
 all_of_ours (Cuts number length) = tt
 all_of_ours Restarts_provider = tt
 all_of_ours Restarts_connector = tt
+all_of_ours (Doubts name) = tt
 
 pub event_inv : (w : World) (event : Event) → Invariant w → Invariant (happens w event)
 event_inv w event inv = of_ours_inv w event (all_of_ours event) inv
@@ -183,6 +245,7 @@ none_inv ours = record {
   };
   noted = λ name known is. absurd (cc);
   told = λ i message at. absurd (cc);
+  made = record { asked = λ request content has is. absurd (cc has.1); held = λ e content has mine in_story. absurd (cc has.1) };
 }
 
 pub empty_inv : Invariant empty
@@ -199,7 +262,7 @@ always_inv events = run_inv empty events empty_inv
 
 pub act_inv : {ours : Names} (w : World) (act : Act) → IsApart ours act → InvariantOf ours w → InvariantOf ours (acts w act)
 act_inv w (Ours event) its inv = of_ours_inv w event its inv
-act_inv {ours} w (Theirs request) alone inv = step_inv w request inv (if_alone ours w.history w.entries request alone)
+act_inv {ours} w (Theirs request) alone inv = step_inv w request inv (if_alone ours w.history w.entries request alone) (alone_made ours w.history w.book request alone)
 
 pub among_inv : {ours : Names} (w : World) (later : List Act) → KeepsApart ours later → InvariantOf ours w → InvariantOf ours (run_among w later)
 among_inv w [] apart inv = inv

@@ -7,6 +7,7 @@ use Rattle.std.specs.List.{last_or, position_from}
 use Rattle.std.specs.Option.{option_map}
 use Rattle.scim_key.proofs.RecordLaws.{same as same_names}
 use Rattle.scim_key.specs.declared.records.RecordName.{RecordName}
+use Rattle.scim_resource.specs.Rows.{ShownRecord}
 use Rattle.scim_message.specs.declared.messages.Request.{Request}
 use Rattle.scim_message.specs.declared.messages.Answer.{Answer}
 use Rattle.source_csv.specs.Records.{row_name}
@@ -14,17 +15,17 @@ use Rattle.source_csv.specs.declared.rows.Row.{Row}
 use Rattle.connector_core.specs.History.{History, same_name, rows_of, last_row, user, members_of, missing_member}
 use Rattle.connector_core.specs.declared.accepting.Verdict.{Verdict}
 use Rattle.connector_core.specs.declared.accepting.Verdict.TheVariants as verdicts
-use Rattle.connector_core.specs.Book.{Book, put, wanting, with_row, forgotten, wanted_row}
+use Rattle.connector_core.specs.Book.{Book, put, wanting, with_row, undoubted, doubting, wanted_row}
 use Rattle.connector_core.specs.Asking.{asking}
 use Rattle.connector_core.specs.declared.asking.Ask.{Ask}
 use Rattle.connector_core.specs.declared.asking.Ask.TheVariants.{Nothing, Waits, Send}
 use Rattle.connector_core.specs.declared.knowledge.Known.{Known}
 use Rattle.connector_core.specs.declared.learning.LearnFault.{LearnFault}
-use Rattle.connector_core.specs.Learning.{Finding, none_sighted, forgetting, is_absent, is_under, Lesson, Learning, learn, after_learning}
+use Rattle.connector_core.specs.Learning.{Finding, absent, nothing_new, none_sighted, forgetting, is_absent, is_under, Lesson, Learning, learn, after_learning}
 use Rattle.connector_core.specs.declared.changing.ChangeFault.{ChangeFault}
 use Rattle.connector_core.specs.Changing.{verdict, unknown_member, is_full, history_after, book_after}
-use Rattle.world_model.proofs.Learned.{Learns, Learns.sees, Learns.misses, Learns.is_taken, Learns.is_stale, learnt_by}
-use Rattle.world_model.specs.World.{World, Message, Asked, Answered, Event, Changes, Sends, Delivers, Cuts, Restarts_provider, Restarts_connector, sends, delivers, message_at, happens, empty, names, judged, run}
+use Rattle.world_model.proofs.Learned.{LearnsShown, LearnsShown.sees, LearnsShown.agrees, LearnsShown.differs, Learns, Learns.shows, Learns.misses, Learns.is_taken, Learns.is_stale, learnt_by}
+use Rattle.world_model.specs.World.{World, Message, Asked, Answered, Event, Changes, Sends, Delivers, Cuts, Restarts_provider, Restarts_connector, Doubts, sends, delivers, message_at, happens, empty, names, judged, run}
 use Rattle.world_model.specs.Safe.{JudgesBySource}
 use Rattle.world_model.specs.Invariant.{Follows}
 use Rattle.world_model.specs.Others.{Act, Ours, Theirs, acts, run_among, JudgesBySourceAmong}
@@ -68,25 +69,39 @@ change_follows book history row (Err fault) follows = follows
 
 -- ---- learning and a restart keep what is wanted
 
-reopened_wants : (o : Option Known) → wants (option_map forgotten o) ≡ wants o
+reopened_wants : (o : Option Known) → wants (option_map undoubted o) ≡ wants o
 reopened_wants None = refl
 reopened_wants (Some known) = refl
 
-none_sighted_wants : (id : Option (List ℕ)) (known : Known) → (none_sighted id known).known.wanted ≡ known.wanted
-none_sighted_wants None known = refl
-none_sighted_wants (Some id) known = refl
+pub doubted_wants : (b : Bool) (o : Option Known) → wants (cond b (option_map doubting o) o) ≡ wants o
+doubted_wants true None = refl
+doubted_wants true (Some known) = refl
+doubted_wants false o = refl
 
-forgetting_wants : (concerned : Bool) (known : Known) → (forgetting concerned known).known.wanted ≡ known.wanted
+some_sighted_wants : (id : List ℕ) (doubted : Bool) (known : Known) → (cond doubted (absent known) (nothing_new known)).known.wanted ≡ known.wanted
+some_sighted_wants id true known = refl
+some_sighted_wants id false known = refl
+
+pub none_sighted_wants : (id : Option (List ℕ)) (known : Known) → (none_sighted id known).known.wanted ≡ known.wanted
+none_sighted_wants None known = refl
+none_sighted_wants (Some id) known = some_sighted_wants id known.is_doubted known
+
+pub forgetting_wants : (concerned : Bool) (known : Known) → (forgetting concerned known).known.wanted ≡ known.wanted
 forgetting_wants true known = refl
 forgetting_wants false known = refl
 
-lesson_wants : (name : RecordName) (known : Known) {said : Finding} {l : Lesson} → Learns name known said l → l.known.wanted ≡ known.wanted
-lesson_wants name known (sees s sight fits) = refl
-lesson_wants name known misses = none_sighted_wants known.id known
-lesson_wants name known is_taken = forgetting_wants (is_absent known.seen) known
-lesson_wants name known (is_stale if_match) = forgetting_wants (is_under if_match known.seen) known
+shown_wants : (book : Book) (name : RecordName) (known : Known) (s : ShownRecord) {l : Lesson} → LearnsShown book name known s l → l.known.wanted ≡ known.wanted
+shown_wants book name known s (sees sight fits) = refl
+shown_wants book name known s (agrees tag is tagged) = refl
+shown_wants book name known s (differs sight differing) = refl
 
-put_keeps : (book : Book) (name : RecordName) (known now : Known) (q : RecordName) → book name ≡ Some known → now.wanted ≡ known.wanted → wanted_row (put book name now) q ≡ wanted_row book q
+pub lesson_wants : (book : Book) (name : RecordName) (known : Known) {said : Finding} {l : Lesson} → Learns book name known said l → l.known.wanted ≡ known.wanted
+lesson_wants book name known (shows s l learns) = shown_wants book name known s learns
+lesson_wants book name known misses = none_sighted_wants known.id known
+lesson_wants book name known is_taken = forgetting_wants (is_absent known.seen) known
+lesson_wants book name known (is_stale if_match) = forgetting_wants (is_under if_match known.seen) known
+
+pub put_keeps : (book : Book) (name : RecordName) (known now : Known) (q : RecordName) → book name ≡ Some known → now.wanted ≡ known.wanted → wanted_row (put book name now) q ≡ wanted_row book q
 put_keeps book name known now q here same = put_wants book name now q ∙ elim (cases_Bool (same_name name q)) [
   | inl e ↦ rw e (ap Some same ∙ sym (ap wants (ap book (sym ((same_names name q).0 e)) ∙ here)))
   | inr e ↦ rw e refl
@@ -99,7 +114,7 @@ learn_keeps book request answer q = go (learn book request answer) refl
     go (Err fault) is = refl
     go (Ok learning) is =
         let t = learnt_by book request answer learning is in
-        ap (λ (b : Book). wanted_row b q) t.book_after ∙ put_keeps book t.name t.known t.teaches.known q t.in_book (lesson_wants t.name t.known t.learns)
+        ap (λ (b : Book). wanted_row b q) t.book_after ∙ put_keeps book t.name t.known t.teaches.known q t.in_book (lesson_wants book t.name t.known t.learns)
 
 -- ---- every event
 
@@ -121,6 +136,7 @@ event_follows w (Delivers number) follows = deliver_follows w (message_at w.mess
 event_follows w (Cuts number length) follows = follows
 event_follows w Restarts_provider follows = follows
 event_follows w Restarts_connector follows = λ q. reopened_wants (w.book q) ∙ follows q
+event_follows w (Doubts name) follows = λ q. doubted_wants (same_name name q) (w.book q) ∙ follows q
 
 pub run_follows : (w : World) (events : List Event) → Follows w.book w.history → Follows (run w events).book (run w events).history
 run_follows w [] follows = follows

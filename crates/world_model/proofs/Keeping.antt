@@ -100,7 +100,7 @@ module _ {ours : Names} (history : History) (es : List Entry) (content : Content
 -- ---- a Replace
 
 -- the condition holds of the version that the request is for, so that version is the current one
-tag_is_last : (turn count : ℕ) (tag : List ℕ) (if_match : Condition) → if_match ≡ Tags (tag ∷ []) → tag ≡ version_tag (suc turn) → turn < count → count ≤ last_version
+pub tag_is_last : (turn count : ℕ) (tag : List ℕ) (if_match : Condition) → if_match ≡ Tags (tag ∷ []) → tag ≡ version_tag (suc turn) → turn < count → count ≤ last_version
     → holds_match if_match (Some count) ≡ true → suc turn ≡ count
 tag_is_last turn count tag if_match alone is within short holds =
     let P : Condition → Type 0 = λ m. holds_match m (Some count) ≡ true in

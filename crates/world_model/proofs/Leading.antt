@@ -9,7 +9,7 @@ use Rattle.scim_message.specs.declared.messages.Request.{Request}
 use Rattle.provider_core.specs.Stories.{step}
 use Rattle.connector_core.specs.Asking.{asking}
 use Rattle.connector_core.specs.Book.{Book, put}
-use Rattle.connector_core.specs.Learning.{or_fault, Finding, Shows, Sight, fit, sighted, finding, subject, noted, learn, after_learning}
+use Rattle.connector_core.specs.Learning.{or_fault, Finding, Shows, Lesson, shown_lesson, finding, subject, noted, learn, after_learning}
 use Rattle.connector_core.specs.declared.asking.Ask.TheVariants.{Send}
 use Rattle.connector_core.specs.declared.knowledge.Known.{Known}
 use Rattle.connector_core.specs.declared.learning.LearnFault.{LearnFault}
@@ -17,7 +17,7 @@ use Rattle.connector_core.specs.declared.learning.LearnFault.TheVariants.{Unfit,
 use Rattle.world_model.specs.World.{World, Answered}
 use Rattle.world_model.specs.Settled.{exchange, Wants}
 use Rattle.world_model.proofs.Exchanging.{answer_to, replied, exchange_is, at_reply, replied_quiet}
-use Rattle.world_model.proofs.Learned.{Fits, fit_tested, taught, told, told_of}
+use Rattle.world_model.proofs.Learned.{LearnsShown, learns_shown, taught, told, told_of}
 use Rattle.world_model.proofs.Learning.{learns}
 use Rattle.world_model.specs.Invariant.{Names}
 use Rattle.world_model.specs.Room.{HasRoom}
@@ -31,9 +31,9 @@ learn_is book request answer name known said about in_book says =
     ∙ ap (λ (o : Option Known). or_fault NoSuchRecord o >>= told book request answer name) in_book
     ∙ ap (λ (r : Result Finding LearnFault). r >>= taught book name known) says
 
-first_ok : {A B C : Type 0} (r : Result A LearnFault) (f : A → Result B LearnFault) (g : B → Result C LearnFault) → IsOk ((r >>= f) >>= g) → (x : A) × (r ≡ Ok x)
-first_ok (Ok x) f g ok = (x, refl)
-first_ok (Err fault) f g ok = absurd (cc)
+first_ok : {A B : Type 0} (r : Result A LearnFault) (f : A → Result B LearnFault) → IsOk (r >>= f) → (x : A) × (r ≡ Ok x)
+first_ok (Ok x) f ok = (x, refl)
+first_ok (Err fault) f ok = absurd (cc)
 
 -- after an exchange for the record in which this request was sent, this is known of it
 pub record Leads (w : World) (name : RecordName) (request : Request) (now : Known) : Type 0 where
@@ -64,21 +64,20 @@ module _ {ours : Names} (w : World) (room : HasRoom w) (q : QuietAmong ours w) (
       let ok = learns u request (answer_to w request) r.inv (r.inv.told place (Answered request (answer_to w request)) there) (r.answered place request (answer_to w request) there) in
       subst IsOk learnt ok
 
--- a resource in sight
+-- what is learnt from a shown resource
 pub record Sees (w : World) (name : RecordName) (known : Known) (request : Request) (s : ShownRecord) : Type 0 where
-  pub sight : Sight
-  pub fits : Fits name known s sight
-  pub leads : Leads w name request (sighted known sight).known
+  pub lesson : Lesson
+  pub learns : LearnsShown w.book name known s lesson
+  pub leads : Leads w name request lesson.known
 
 module _ {ours : Names} (w : World) (room : HasRoom w) (q : QuietAmong ours w) (name : RecordName) (known : Known) (request : Request) (s : ShownRecord)
     (asks : asking w.book name ≡ Some (Send request)) (about : subject request ≡ Some name) (in_book : w.book name ≡ Some known) (says : finding request (answer_to w request) ≡ Ok (Shows s)) where
-  pub sees : Sees w name known request s
-  sees =
+  pub seen_in : Sees w name known request s
+  seen_in =
       let ok = is_learnt w room q name known request (Shows s) asks about in_book says in
-      let (sight, is) = first_ok (fit name known s) (λ x. Ok (sighted known x)) (λ l. Ok (noted w.book name l)) ok in
+      let (l, is) = first_ok (shown_lesson w.book name known s) (λ l. Ok (noted w.book name l)) ok in
       record {
-        sight = sight;
-        fits = fit_tested name known s sight is;
-        leads = leads_to w room q name known request (Shows s) asks about in_book says (sighted known sight).known
-            (ap (λ (r : Result Sight LearnFault). after_learning w.book ((r >>= λ x. Ok (sighted known x)) >>= λ l. Ok (noted w.book name l))) is);
+        lesson = l;
+        learns = learns_shown w.book name known s l is;
+        leads = leads_to w room q name known request (Shows s) asks about in_book says l.known (ap (λ (r : Result Lesson LearnFault). after_learning w.book (r >>= λ l. Ok (noted w.book name l))) is);
       }

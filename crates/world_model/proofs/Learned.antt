@@ -16,7 +16,7 @@ use Rattle.provider_core.specs.Tables.{shown_in}
 use Rattle.source_csv.specs.Records.{row_revision}
 use Rattle.connector_core.specs.History.{same_name}
 use Rattle.connector_core.specs.Book.{Book, put}
-use Rattle.connector_core.specs.Learning.{or_fault, fault_unless, Finding, Shows, Shows_none, Taken, Stale, Sight, fit, fits_id, listed, sighted, none_sighted, forgetting, is_absent, is_under, Lesson, lesson, finding, subject, content_revision, Learning, noted, learn}
+use Rattle.connector_core.specs.Learning.{or_fault, fault_unless, Finding, Shows, Shows_none, Taken, Stale, Sight, fit, fits_id, listed, sighted, none_sighted, is_wanted, shown_revision, fit_differing, differing, agreeing, compared, shown_lesson, forgetting, is_absent, is_under, Lesson, lesson, finding, subject, content_revision, Learning, noted, learn}
 use Rattle.connector_core.specs.declared.knowledge.Known.{Known}
 use Rattle.connector_core.specs.declared.learning.LearnFault.{LearnFault}
 use Rattle.connector_core.specs.declared.learning.LearnFault.TheVariants.{Unfit, Unversioned, NoSuchRecord}
@@ -122,28 +122,88 @@ shows_first (Replace id content m n) (answers.List list) s is = absurd (cc)
 shows_first (Replace id content m n) (NotModified kind i version) s is = absurd (cc)
 shows_first (Replace id content m n) (Error error) s is = absurd (refusal_shows_none _ (Stale m) _ s (λ e. cc) is)
 
+-- what `fit_differing` tested of a shown resource that isn't as it is wanted
+pub record Differs (book : Book) (name : RecordName) (known : Known) (s : ShownRecord) (sight : Sight) : Type 0 where
+  pub doubted : known.is_doubted ≡ true
+  pub other : is_wanted book known s.content ≡ false
+  pub named : same_name name (content_name s.content) ≡ true
+  pub revision : sight.revision ≡ shown_revision s.content
+  pub within : not (before (row_revision known.wanted) (shown_revision s.content)) ≡ true
+  pub tag : s.version ≡ Some sight.tag
+  pub id : sight.id ≡ s.id
+
+-- the steps of `fit_differing`
+abbrev pub differing_within : ShownRecord → Bool → Result Sight LearnFault
+differing_within s _ = or_fault Unversioned s.version >>= at_tag s (shown_revision s.content)
+
+abbrev pub differing_named : Known → ShownRecord → Bool → Result Sight LearnFault
+differing_named known s _ = fault_unless Unfit (not (before (row_revision known.wanted) (shown_revision s.content))) >>= differing_within s
+
+module _ (book : Book) (name : RecordName) (known : Known) (s : ShownRecord) (sight : Sight) where
+  differing_tested : known.is_doubted ≡ true → is_wanted book known s.content ≡ false → fit_differing name known s ≡ Ok sight → Differs book name known s sight
+  differing_tested doubted other is =
+      let (b, named, after_name) = through (fault_unless Unfit (same_name name (content_name s.content))) (differing_named known s) sight is in
+      let (c, not_above, after_within) = through (fault_unless Unfit (not (before (row_revision known.wanted) (shown_revision s.content)))) (differing_within s) sight after_name in
+      let (tag, has_tag, made) = through (or_fault Unversioned s.version) (at_tag s (shown_revision s.content)) sight after_within in
+      let seen : record { id = s.id; revision = shown_revision s.content; tag = tag } ≡ sight = cc in
+      let P : Sight → Type 0 = λ x. Differs book name known s x in
+      subst P seen (record {
+        doubted = doubted;
+        other = other;
+        named = passed Unfit (same_name name (content_name s.content)) b named;
+        revision = refl;
+        within = passed Unfit (not (before (row_revision known.wanted) (shown_revision s.content))) c not_above;
+        tag = was_there Unversioned s.version tag has_tag;
+        id = refl;
+      })
+
 -- ---- what is learnt about one record
 
--- a resource in sight, nothing new, nothing there, or something forgotten
-pub data Learns (name : RecordName) (known : Known) : Finding → Lesson → Type 0 where
-  sees : (s : ShownRecord) (sight : Sight) → Fits name known s sight → Learns name known (Shows s) (sighted known sight)
-  misses : Learns name known Shows_none (none_sighted known.id known)
-  is_taken : Learns name known Taken (forgetting (is_absent known.seen) known)
-  is_stale : (if_match : Condition) → Learns name known (Stale if_match) (forgetting (is_under if_match known.seen) known)
+-- the record's resource; of a doubted record one that is as it is wanted, or another
+pub data LearnsShown (book : Book) (name : RecordName) (known : Known) (s : ShownRecord) : Lesson → Type 0 where
+  sees : (sight : Sight) → Fits name known s sight → LearnsShown book name known s (sighted known sight)
+  agrees : (tag : List ℕ) → is_wanted book known s.content ≡ true → s.version ≡ Some tag → LearnsShown book name known s (agreeing known s.id tag)
+  differs : (sight : Sight) → Differs book name known s sight → LearnsShown book name known s (differing known sight)
 
-pub learns_of : (name : RecordName) (known : Known) (said : Finding) (l : Lesson) → lesson name known said ≡ Ok l → Learns name known said l
-learns_of name known (Shows s) l is =
-    let (sight, fits, made) = through (fit name known s) (λ x. Ok (sighted known x)) l is in
-    let same : sighted known sight ≡ l = cc in
-    subst (Learns name known (Shows s)) same (sees s sight (fit_tested name known s sight fits))
-learns_of name known Shows_none l is = let same : none_sighted known.id known ≡ l = cc in subst (Learns name known Shows_none) same misses
-learns_of name known Taken l is = let same : forgetting (is_absent known.seen) known ≡ l = cc in subst (Learns name known Taken) same is_taken
-learns_of name known (Stale if_match) l is =
+-- a resource in sight, nothing new, nothing there, or something forgotten
+pub data Learns (book : Book) (name : RecordName) (known : Known) : Finding → Lesson → Type 0 where
+  shows : (s : ShownRecord) (l : Lesson) → LearnsShown book name known s l → Learns book name known (Shows s) l
+  misses : Learns book name known Shows_none (none_sighted known.id known)
+  is_taken : Learns book name known Taken (forgetting (is_absent known.seen) known)
+  is_stale : (if_match : Condition) → Learns book name known (Stale if_match) (forgetting (is_under if_match known.seen) known)
+
+module _ (book : Book) (name : RecordName) (known : Known) (s : ShownRecord) (l : Lesson) where
+  compared_of : (wanted : Bool) → known.is_doubted ≡ true → is_wanted book known s.content ≡ wanted → compared wanted name known s ≡ Ok l → LearnsShown book name known s l
+  compared_of true doubted test is =
+      let (tag, has, made) = through (or_fault Unversioned s.version) (λ x. Ok (agreeing known s.id x)) l is in
+      let same : agreeing known s.id tag ≡ l = cc in
+      subst (LearnsShown book name known s) same (agrees tag test (was_there Unversioned s.version tag has))
+  compared_of false doubted test is =
+      let (sight, fits, made) = through (fit_differing name known s) (λ x. Ok (differing known x)) l is in
+      let same : differing known sight ≡ l = cc in
+      subst (LearnsShown book name known s) same (differs sight (differing_tested book name known s sight doubted test fits))
+
+  shown_of : (doubted : Bool) → known.is_doubted ≡ doubted
+      → cond doubted (compared (is_wanted book known s.content) name known s) (fit name known s >>= λ sight. Ok (sighted known sight)) ≡ Ok l → LearnsShown book name known s l
+  shown_of true doubted is = compared_of (is_wanted book known s.content) doubted refl is
+  shown_of false doubted is =
+      let (sight, fits, made) = through (fit name known s) (λ x. Ok (sighted known x)) l is in
+      let same : sighted known sight ≡ l = cc in
+      subst (LearnsShown book name known s) same (sees sight (fit_tested name known s sight fits))
+
+  pub learns_shown : shown_lesson book name known s ≡ Ok l → LearnsShown book name known s l
+  learns_shown is = shown_of known.is_doubted refl is
+
+pub learns_of : (book : Book) (name : RecordName) (known : Known) (said : Finding) (l : Lesson) → lesson book name known said ≡ Ok l → Learns book name known said l
+learns_of book name known (Shows s) l is = shows s l (learns_shown book name known s l is)
+learns_of book name known Shows_none l is = let same : none_sighted known.id known ≡ l = cc in subst (Learns book name known Shows_none) same misses
+learns_of book name known Taken l is = let same : forgetting (is_absent known.seen) known ≡ l = cc in subst (Learns book name known Taken) same is_taken
+learns_of book name known (Stale if_match) l is =
     let same : forgetting (is_under if_match known.seen) known ≡ l = cc in
-    subst (Learns name known (Stale if_match)) same (is_stale if_match)
+    subst (Learns book name known (Stale if_match)) same (is_stale if_match)
 
 abbrev pub taught : Book → RecordName → Known → Finding → Result Learning LearnFault
-taught book name known said = lesson name known said >>= λ l. Ok (noted book name l)
+taught book name known said = lesson book name known said >>= λ l. Ok (noted book name l)
 
 abbrev pub told : Book → Request → Answer → RecordName → Known → Result Learning LearnFault
 told book request answer name known = finding request answer >>= taught book name known
@@ -163,7 +223,7 @@ pub record Teaches (book : Book) (request : Request) (answer : Answer) (learning
   pub about : subject request ≡ Some name
   pub in_book : book name ≡ Some known
   pub says : finding request answer ≡ Ok said
-  pub learns : Learns name known said teaches
+  pub learns : Learns book name known said teaches
   pub book_after : learning.book ≡ put book name teaches.known
 
 pub learnt_by : (book : Book) (request : Request) (answer : Answer) (learning : Learning) → learn book request answer ≡ Ok learning → Teaches book request answer learning
@@ -171,7 +231,7 @@ learnt_by book request answer learning is =
     let (name, about, after_name) = through (or_fault Unfit (subject request)) (told_of book request answer) learning is in
     let (known, in_book, after_known) = through (or_fault NoSuchRecord (book name)) (told book request answer name) learning after_name in
     let (said, says, after_said) = through (finding request answer) (taught book name known) learning after_known in
-    let (l, teaches, made) = through (lesson name known said) (λ l. Ok (noted book name l)) learning after_said in
+    let (l, teaches, made) = through (lesson book name known said) (λ l. Ok (noted book name l)) learning after_said in
     let same : noted book name l ≡ learning = cc in
     record {
       name = name;
@@ -181,6 +241,6 @@ learnt_by book request answer learning is =
       about = was_there Unfit (subject request) name about;
       in_book = was_there NoSuchRecord (book name) known in_book;
       says = says;
-      learns = learns_of name known said l teaches;
+      learns = learns_of book name known said l teaches;
       book_after = book_of (noted book name l) learning same;
     }

@@ -1,5 +1,5 @@
 -- The connector learns from every answer that says something of a record with accepted rows and shows facts.
-use Rattle.std.proofs.Common.{◌≡◌, ℕ, zero, suc, Bool, true, false, not, List, [], ◌∷◌, Option, Some, None, Result, Ok, Err, IsOk, refl, ap, sym, ◌∙◌, subst}
+use Rattle.std.proofs.Common.{◌≡◌, ℕ, zero, suc, Bool, true, false, cond, not, List, [], ◌∷◌, Option, Some, None, Result, Ok, Err, IsOk, refl, ap, sym, ◌∙◌, subst}
 use Rattle.std.proofs.lemmas.Bool.{not_from_false}
 use Rattle.std.proofs.lemmas.Slice.Eq.{bytes_eq-Decides}
 use Rattle.std.specs.List.{last_or}
@@ -18,7 +18,7 @@ use Rattle.provider_core.proofs.TableLaws.{same_if_eq}
 use Rattle.source_csv.specs.Records.{row_revision}
 use Rattle.source_csv.specs.declared.rows.Row.{Row}
 use Rattle.connector_core.specs.History.{Rises, rows_of, same_name}
-use Rattle.connector_core.specs.Learning.{or_fault, fault_unless, Finding, Shows, Shows_none, Taken, Stale, fit, fits_id, sighted, lesson, finding, subject, content_revision, noted, learn}
+use Rattle.connector_core.specs.Learning.{or_fault, fault_unless, Finding, Shows, Shows_none, Taken, Stale, fit, fits_id, sighted, is_wanted, or_no_revision, shown_revision, fit_differing, differing, agreeing, compared, lesson, finding, subject, content_revision, noted, learn}
 use Rattle.connector_core.specs.declared.knowledge.Known.{Known}
 use Rattle.connector_core.specs.declared.learning.LearnFault.{LearnFault}
 use Rattle.connector_core.specs.declared.learning.LearnFault.TheVariants.{Unfit, Unversioned, NoSuchRecord}
@@ -26,7 +26,8 @@ use Rattle.world_model.specs.World.{World}
 use Rattle.world_model.specs.Safe.{IsAt, Has}
 use Rattle.world_model.proofs.Lists.{last_has, has_last}
 use Rattle.world_model.proofs.Growing.{id_at}
-use Rattle.world_model.proofs.Learned.{at_tag, at_within, at_revision, at_id, at_name, taught, told, told_of, shows_first}
+use Rattle.world_model.proofs.Invariant.{compares_of}
+use Rattle.world_model.proofs.Learned.{differing_within, differing_named, at_tag, at_within, at_revision, at_id, at_name, taught, told, told_of, shows_first}
 use Rattle.world_model.proofs.Answering.{Answers}
 use Rattle.world_model.proofs.Ranking.{record_ours}
 use Rattle.world_model.specs.Invariant.{Names, InvariantOf, ShowsTruly}
@@ -54,7 +55,7 @@ first_up_to first [] last rises is = let same : first ≡ last = cc in subst (λ
 first_up_to first (r ∷ rows) last rises is =
     transitive_up_to (row_revision first) (row_revision r) (row_revision last) (up_to_before (row_revision first) (row_revision r) rises.0.0) (first_up_to r rows last rises.1 is)
 
-each_up_to : (rows : List Row) (i : ℕ) (row last : Row) → Rises rows → IsAt rows i row → last_or None rows ≡ Some last → row_revision row ≼ row_revision last
+pub each_up_to : (rows : List Row) (i : ℕ) (row last : Row) → Rises rows → IsAt rows i row → last_or None rows ≡ Some last → row_revision row ≼ row_revision last
 each_up_to [] i row last rises at is = absurd (cc)
 each_up_to (r ∷ rows) zero row last rises at is =
     let same : r ≡ row = cc in
@@ -100,8 +101,29 @@ module _ {ours : Names} (w : World) (inv : InvariantOf ours w) (name : RecordNam
       fit_ok name known s (row_revision image.row) (version_tag (suc fact.turn)) (same_if_eq name (content_name s.content) (sym named))
       (fits known.id s.id (λ k is. same_id k s.id (sym ((inv.noted name known in_book).id k is) ∙ its ∙ ap Some (sym fact.id)))) image.revision (not_from_false _ up) fact.version
 
-  lesson_ok : (said : Finding) → ((s : ShownRecord) → said ≡ Shows s → IsFact w.entries s × (content_name s.content ≡ name)) → IsOk (lesson name known said)
-  lesson_ok (Shows s) shown = let facts = shown s refl in ok_whatever (fit name known s) (λ sight. Ok (sighted known sight)) (fact_fits s facts.0 facts.1) (λ sight. refl)
+  -- so does one that isn't as it is wanted
+  differing_fits : (s : ShownRecord) → IsFact w.entries s → content_name s.content ≡ name → is_wanted w.book known s.content ≡ false → IsOk (fit_differing name known s)
+  differing_fits s fact named other =
+      let (r, has, lower) = (compares_of w inv name known in_book).below s fact (sym named) other in
+      let up : shown_revision s.content ≼ row_revision known.wanted = subst (λ (x : RevisionValue). x ≼ row_revision known.wanted) (sym (ap or_no_revision has)) (up_to_before r (row_revision known.wanted) lower) in
+      ok_after (fault_unless Unfit (same_name name (content_name s.content))) (differing_named known s) true
+      (passes Unfit (same_name name (content_name s.content)) (same_if_eq name (content_name s.content) (sym named)))
+      (ok_after (fault_unless Unfit (not (before (row_revision known.wanted) (shown_revision s.content)))) (differing_within s) true
+      (passes Unfit (not (before (row_revision known.wanted) (shown_revision s.content))) (not_from_false _ up))
+      (ok_after (or_fault Unversioned s.version) (at_tag s (shown_revision s.content)) (version_tag (suc fact.turn)) (is_there Unversioned s.version (version_tag (suc fact.turn)) fact.version) refl))
+
+  compared_ok : (s : ShownRecord) → IsFact w.entries s → content_name s.content ≡ name → (wanted : Bool) → is_wanted w.book known s.content ≡ wanted → IsOk (compared wanted name known s)
+  compared_ok s fact named true test =
+      ok_after (or_fault Unversioned s.version) (λ tag. Ok (agreeing known s.id tag)) (version_tag (suc fact.turn)) (is_there Unversioned s.version (version_tag (suc fact.turn)) fact.version) refl
+  compared_ok s fact named false test = ok_whatever (fit_differing name known s) (λ sight. Ok (differing known sight)) (differing_fits s fact named test) (λ sight. refl)
+
+  shown_ok : (s : ShownRecord) → IsFact w.entries s → content_name s.content ≡ name → (doubted : Bool)
+      → IsOk (cond doubted (compared (is_wanted w.book known s.content) name known s) (fit name known s >>= λ sight. Ok (sighted known sight)))
+  shown_ok s fact named true = compared_ok s fact named (is_wanted w.book known s.content) refl
+  shown_ok s fact named false = ok_whatever (fit name known s) (λ sight. Ok (sighted known sight)) (fact_fits s fact named) (λ sight. refl)
+
+  lesson_ok : (said : Finding) → ((s : ShownRecord) → said ≡ Shows s → IsFact w.entries s × (content_name s.content ≡ name)) → IsOk (lesson w.book name known said)
+  lesson_ok (Shows s) shown = let facts = shown s refl in shown_ok s facts.0 facts.1 known.is_doubted
   lesson_ok Shows_none shown = refl
   lesson_ok Taken shown = refl
   lesson_ok (Stale if_match) shown = refl
@@ -113,5 +135,5 @@ learns w request answer inv shows a =
     ok_after (or_fault Unfit (subject request)) (told_of w.book request answer) a.name (is_there Unfit (subject request) a.name a.about)
     (ok_after (or_fault NoSuchRecord (w.book a.name)) (told w.book request answer a.name) known (is_there NoSuchRecord (w.book a.name) known in_book)
     (ok_after (finding request answer) (taught w.book a.name known) a.said a.says.says
-    (ok_whatever (lesson a.name known a.said) (λ l. Ok (noted w.book a.name l))
+    (ok_whatever (lesson w.book a.name known a.said) (λ l. Ok (noted w.book a.name l))
     (lesson_ok w inv a.name known in_book (is_last ∙ ap Some (sym wanted)) a.said (λ s is. (shows 0 s (shows_first request answer s (a.says.says ∙ ap Ok is)), a.says.its s is))) (λ l. refl))))

@@ -32,9 +32,9 @@ use Rattle.world_model.proofs.Phases.{Near, Near.truly_absent, Near.at_current}
 -- ---- one request
 
 -- the record's entries are the same
-record SameOf (name : RecordName) (es fs : List Entry) : Type 0 where
-  onward : (i : ℕ) (e : Entry) → e.name ≡ name → IsAt es i e → IsAt fs i e
-  back : (i : ℕ) (e : Entry) → e.name ≡ name → IsAt fs i e → IsAt es i e
+pub record SameOf (name : RecordName) (es fs : List Entry) : Type 0 where
+  pub onward : (i : ℕ) (e : Entry) → e.name ≡ name → IsAt es i e → IsAt fs i e
+  pub back : (i : ℕ) (e : Entry) → e.name ≡ name → IsAt fs i e → IsAt es i e
 
 not_theirs : (ours : Names) (name theirs : RecordName) → ours name ≡ true → ours theirs ≡ false → theirs ≡ name → ⊥
 not_theirs ours name theirs mine alone same = let clash : false ≡ true = sym alone ∙ ap ours same ∙ mine in cc
@@ -84,11 +84,11 @@ module _ (ours : Names) (name : RecordName) (mine : ours name ≡ true) where
 
   near_on : (es fs : List Entry) (known : Known) → SameOf name es fs → Near es name known → Near fs name known
   near_on es fs known same (truly_absent is none) = truly_absent is (λ i e at named. none i e (same.back i e named at) named)
-  near_on es fs known same (at_current i e revision at named is) = at_current i e revision (same.onward i e named at) named is
+  near_on es fs known same (at_current i e id revision at named is) = at_current i e id revision (same.onward i e named at) named is
 
   -- ---- all their requests
 
-  all_alone : (w : World) (requests : List Request) → AllByRecursion (LeavesAlone ours) requests → SameOf name w.entries (after_them w requests).entries
+  pub all_alone : (w : World) (requests : List Request) → AllByRecursion (LeavesAlone ours) requests → SameOf name w.entries (after_them w requests).entries
   all_alone w [] alone = record { onward = λ i e named at. at; back = λ i e named at. at }
   all_alone w (request ∷ requests) alone =
       let first = step_alone w.entries request alone.0 in

@@ -1,5 +1,5 @@
 -- Nothing that was accepted, held or sent is lost or changed, and no confirmed revision falls.
-use Rattle.std.proofs.Common.{◌≡◌, ℕ, Bool, true, false, List, [], ◌∷◌, ◌++◌, Option, Some, None, Result, Ok, Err, refl, ap, sym, ◌∙◌, subst, inl, inr, append_assoc}
+use Rattle.std.proofs.Common.{◌≡◌, ℕ, Bool, true, false, cond, List, [], ◌∷◌, ◌++◌, Option, Some, None, Result, Ok, Err, refl, ap, sym, ◌∙◌, subst, inl, inr, append_assoc}
 use Rattle.std.proofs.lemmas.Bool.{cases_Bool}
 use Rattle.std.proofs.lemmas.List.{append-nil}
 use Rattle.std.proofs.lemmas.List.Elements.{filter-append}
@@ -8,27 +8,28 @@ use Rattle.scim_key.proofs.RevisionLaws.{reflexive_up_to, transitive_up_to, late
 use Rattle.scim_key.proofs.RecordLaws.{same as same_names}
 use Rattle.scim_key.specs.Revisions.{◌≼◌}
 use Rattle.scim_key.specs.declared.records.RecordName.{RecordName}
+use Rattle.scim_resource.specs.Rows.{ShownRecord}
 use Rattle.scim_message.specs.declared.messages.Request.{Request}
 use Rattle.scim_message.specs.declared.messages.Answer.{Answer}
 use Rattle.provider_core.specs.Stories.{step}
 use Rattle.provider_core.proofs.StoryLaws.{stories_only_grow}
 use Rattle.provider_core.proofs.TableLaws.{go_on_staying, go_on_further}
-use Rattle.source_csv.specs.Records.{row_name}
+use Rattle.source_csv.specs.Records.{row_name, row_revision}
 use Rattle.source_csv.specs.declared.rows.Row.{Row}
 use Rattle.connector_core.specs.History.{History, same_name, rows_of}
 use Rattle.connector_core.specs.declared.accepting.Verdict.{Verdict}
 use Rattle.connector_core.specs.declared.accepting.Verdict.TheVariants as verdicts
-use Rattle.connector_core.specs.Book.{Book, put, wanting, forgotten}
+use Rattle.connector_core.specs.Book.{Book, put, wanting, undoubted, doubting}
 use Rattle.connector_core.specs.Asking.{asking}
 use Rattle.connector_core.specs.declared.asking.Ask.{Ask}
 use Rattle.connector_core.specs.declared.asking.Ask.TheVariants.{Nothing, Waits, Send}
 use Rattle.connector_core.specs.declared.knowledge.Known.{Known}
 use Rattle.connector_core.specs.declared.learning.LearnFault.{LearnFault}
-use Rattle.connector_core.specs.Learning.{Finding, none_sighted, forgetting, is_absent, is_under, Lesson, Learning, learn, after_learning}
+use Rattle.connector_core.specs.Learning.{Finding, absent, nothing_new, none_sighted, forgetting, is_absent, is_under, Lesson, Learning, learn, after_learning}
 use Rattle.connector_core.specs.declared.changing.ChangeFault.{ChangeFault}
 use Rattle.connector_core.specs.Changing.{history_after, book_after}
-use Rattle.world_model.proofs.Learned.{Learns, Learns.sees, Learns.misses, Learns.is_taken, Learns.is_stale, learnt_by}
-use Rattle.world_model.specs.World.{World, Message, Asked, Answered, Event, Changes, Sends, Delivers, Cuts, Restarts_provider, Restarts_connector, sends, delivers, message_at, happens, empty, judged, run}
+use Rattle.world_model.proofs.Learned.{LearnsShown, LearnsShown.sees, LearnsShown.agrees, LearnsShown.differs, Learns, Learns.shows, Learns.misses, Learns.is_taken, Learns.is_stale, learnt_by}
+use Rattle.world_model.specs.World.{World, Message, Asked, Answered, Event, Changes, Sends, Delivers, Cuts, Restarts_provider, Restarts_connector, Doubts, sends, delivers, message_at, happens, empty, judged, run}
 use Rattle.world_model.specs.Safe.{IsPrefixOf, Onward, AlwaysOnward}
 use Rattle.world_model.specs.Others.{Act, Ours, Theirs, acts, run_among, AlwaysOnwardAmong}
 
@@ -76,19 +77,28 @@ change_raises book row (Err fault) = none_falls book
 abbrev Raises : Known → Lesson → Type 0
 Raises known l = known.confirmed ≼ l.known.confirmed
 
+some_sighted_raises : (doubted : Bool) (known : Known) → Raises known (cond doubted (absent known) (nothing_new known))
+some_sighted_raises true known = reflexive_up_to known.confirmed
+some_sighted_raises false known = reflexive_up_to known.confirmed
+
 none_sighted_raises : (id : Option (List ℕ)) (known : Known) → Raises known (none_sighted id known)
 none_sighted_raises None known = reflexive_up_to known.confirmed
-none_sighted_raises (Some id) known = reflexive_up_to known.confirmed
+none_sighted_raises (Some id) known = some_sighted_raises known.is_doubted known
 
 forgetting_raises : (concerned : Bool) (known : Known) → Raises known (forgetting concerned known)
 forgetting_raises true known = reflexive_up_to known.confirmed
 forgetting_raises false known = reflexive_up_to known.confirmed
 
-lesson_raises : (name : RecordName) (known : Known) {said : Finding} {l : Lesson} → Learns name known said l → Raises known l
-lesson_raises name known (sees s sight fits) = later_above_first known.confirmed sight.revision
-lesson_raises name known misses = none_sighted_raises known.id known
-lesson_raises name known is_taken = forgetting_raises (is_absent known.seen) known
-lesson_raises name known (is_stale if_match) = forgetting_raises (is_under if_match known.seen) known
+shown_raises : (book : Book) (name : RecordName) (known : Known) (s : ShownRecord) {l : Lesson} → LearnsShown book name known s l → Raises known l
+shown_raises book name known s (sees sight fits) = later_above_first known.confirmed sight.revision
+shown_raises book name known s (agrees tag is tagged) = later_above_first known.confirmed (row_revision known.wanted)
+shown_raises book name known s (differs sight differing) = reflexive_up_to known.confirmed
+
+lesson_raises : (book : Book) (name : RecordName) (known : Known) {said : Finding} {l : Lesson} → Learns book name known said l → Raises known l
+lesson_raises book name known (shows s l learns) = shown_raises book name known s learns
+lesson_raises book name known misses = none_sighted_raises known.id known
+lesson_raises book name known is_taken = forgetting_raises (is_absent known.seen) known
+lesson_raises book name known (is_stale if_match) = forgetting_raises (is_under if_match known.seen) known
 
 noted_raises : (book : Book) (name : RecordName) (known : Known) (l : Lesson) → book name ≡ Some known → Raises known l → NoneFalls book (put book name l.known)
 noted_raises book name known l here up = put_raises book name l.known (λ k is.
@@ -101,11 +111,17 @@ learn_raises book request answer = go (learn book request answer) refl
     go (Err fault) is = none_falls book
     go (Ok learning) is =
         let t = learnt_by book request answer learning is in
-        subst (λ (b : Book). NoneFalls book b) (sym t.book_after) (noted_raises book t.name t.known t.teaches t.in_book (lesson_raises t.name t.known t.learns))
+        subst (λ (b : Book). NoneFalls book b) (sym t.book_after) (noted_raises book t.name t.known t.teaches t.in_book (lesson_raises book t.name t.known t.learns))
 
-reopened_raises : (o : Option Known) (known : Known) → o ≡ Some known → StaysConfirmed known (option_map forgotten o)
+reopened_raises : (o : Option Known) (known : Known) → o ≡ Some known → StaysConfirmed known (option_map undoubted o)
 reopened_raises None known is = absurd (cc)
-reopened_raises (Some k) known is = let same : k ≡ known = cc in (forgotten k, refl, subst (λ x. x.confirmed ≼ k.confirmed) same (reflexive_up_to k.confirmed))
+reopened_raises (Some k) known is = let same : k ≡ known = cc in (undoubted k, refl, subst (λ x. x.confirmed ≼ k.confirmed) same (reflexive_up_to k.confirmed))
+
+-- a doubt leaves the confirmed revision
+doubted_raises : (b : Bool) (o : Option Known) (known : Known) → o ≡ Some known → StaysConfirmed known (cond b (option_map doubting o) o)
+doubted_raises b None known is = absurd (cc)
+doubted_raises true (Some k) known is = let same : k ≡ known = cc in (doubting k, refl, subst (λ x. x.confirmed ≼ k.confirmed) same (reflexive_up_to k.confirmed))
+doubted_raises false (Some k) known is = (known, is, reflexive_up_to known.confirmed)
 
 -- ---- every event
 
@@ -168,6 +184,12 @@ event_on w Restarts_connector = record {
   stories = go_on_staying w.entries;
   messages = stays w.messages;
   confirmed = λ name. reopened_raises (w.book name);
+}
+event_on w (Doubts name) = record {
+  rows = λ q. stays (rows_of w.history q);
+  stories = go_on_staying w.entries;
+  messages = stays w.messages;
+  confirmed = λ q. doubted_raises (same_name name q) (w.book q);
 }
 
 pub run_on : (w : World) (events : List Event) → Onward w (run w events)

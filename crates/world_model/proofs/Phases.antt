@@ -21,7 +21,7 @@ use Rattle.provider_core.proofs.TableLaws.{named_found}
 use Rattle.source_csv.specs.Records.{IsRow, row_name, row_revision}
 use Rattle.connector_core.specs.History.{rows_of, last_row}
 use Rattle.connector_core.specs.Asking.{asking, is_done, request_for, search_for, replacement}
-use Rattle.connector_core.specs.Learning.{Shows_none, Taken, Stale, subject, Sight, sighted, none_sighted, forgetting, is_absent, is_under, content_revision}
+use Rattle.connector_core.specs.Learning.{Shows_none, Taken, Stale, subject, Lesson, Sight, seen_at, sighted, differing, is_wanted, none_sighted, forgetting, is_absent, is_under, content_revision}
 use Rattle.connector_core.specs.declared.asking.Ask.TheVariants.{Send}
 use Rattle.connector_core.specs.declared.knowledge.Known.{Known}
 use Rattle.connector_core.specs.declared.knowledge.Seen.{Seen}
@@ -33,7 +33,9 @@ use Rattle.world_model.proofs.Answering.{below_last}
 use Rattle.world_model.proofs.Asked.{IsDone, done_if, later_top, HasImage, image_named, image_revised, asked}
 use Rattle.world_model.proofs.Exchanging.{answer_to}
 use Rattle.world_model.proofs.Finding.{Finds, Finds.finds, Finds.lacks, search_finds, search_keeps, Creates, Creates.creates, Creates.meets, create_answers, Replaces, Replaces.renews, Replaces.misses, replace_answers}
-use Rattle.world_model.proofs.Leading.{Leads, leads_to, sees}
+use Rattle.world_model.proofs.Comparing.{image_wanted}
+use Rattle.world_model.proofs.Leading.{Leads, leads_to, seen_in}
+use Rattle.world_model.proofs.Learned.{LearnsShown, LearnsShown.sees, LearnsShown.agrees, LearnsShown.differs}
 use Rattle.world_model.proofs.Lists.{last_has}
 use Rattle.world_model.specs.Invariant.{Names, Noted}
 use Rattle.world_model.proofs.Quiet.{QuietAmong, row_counted, few_entries}
@@ -45,7 +47,7 @@ use Rattle.world_model.proofs.Sending.{row_of_record}
 -- what was seen is true: there is no entry, or the tag is that of the entry's current version
 pub data Near (es : List Entry) (name : RecordName) (known : Known) : Type 0 where
   truly_absent : known.seen ≡ Absent → Lacks es name → Near es name known
-  at_current : (i : ℕ) (e : Entry) (revision : RevisionValue) → IsAt es i e → e.name ≡ name → known.seen ≡ At (version_tag (suc (length e.earlier))) revision → Near es name known
+  at_current : (i : ℕ) (e : Entry) (id : List ℕ) (revision : RevisionValue) → IsAt es i e → e.name ≡ name → known.seen ≡ At id (version_tag (suc (length e.earlier))) revision → Near es name known
 
 -- how an exchange changes what was known: the wanted revision is confirmed; or, if nothing was seen, the truth was
 -- seen; or what was seen and isn't true is forgotten
@@ -69,11 +71,11 @@ id_entry es name id is none = go (entry_named name es) refl is
     go (Some n) found was = let (i, number, at, named) = named_found name es n found in none i n.entry at named
 
 -- the tag of a version is under itself
-alone_under : (tag : List ℕ) (revision : RevisionValue) → is_under (Tags (tag ∷ [])) (At tag revision) ≡ true
-alone_under tag revision = (bytes_eq-Decides tag tag).1 refl
+alone_under : (id tag : List ℕ) (revision : RevisionValue) → is_under (Tags (tag ∷ [])) (At id tag revision) ≡ true
+alone_under id tag revision = (bytes_eq-Decides tag tag).1 refl
 
 -- the tag of an entry's current version holds of it
-current_holds : (e : Entry) (tag : List ℕ) → length (story e) < last_version → tag ≡ version_tag (suc (length e.earlier)) → holds_match (Tags (tag ∷ [])) (Some (length (story e))) ≡ true
+pub current_holds : (e : Entry) (tag : List ℕ) → length (story e) < last_version → tag ≡ version_tag (suc (length e.earlier)) → holds_match (Tags (tag ∷ [])) (Some (length (story e))) ≡ true
 current_holds e tag short is =
     let count : suc (length e.earlier) ≡ length (story e) = omega (arith, length-append e.earlier (e.held ∷ [])) in
     let P : List ℕ → Type 0 = λ t. holds_match (Tags (t ∷ [])) (Some (length (story e))) ≡ true in
@@ -102,7 +104,7 @@ module _ {ours : Names} (w : World) (q : QuietAmong ours w) (name : RecordName) 
   -- the wanted revision in sight is confirmed
   sight_ends : (sight : Sight) → sight.revision ≡ row_revision known.wanted → IsDone (sighted known sight).known
   sight_ends sight same =
-      done_if (sighted known sight).known (ap (later known.confirmed) same ∙ later_top known.confirmed (row_revision known.wanted) noted.within)
+      done_if (sighted known sight).known refl (ap (later known.confirmed) same ∙ later_top known.confirmed (row_revision known.wanted) noted.within)
 
 module _ {ours : Names} (w : World) (room : HasRoom w) (q : QuietAmong ours w) (name : RecordName) (known : Known) (in_book : w.book name ≡ Some known) where
   law : IsRow known.wanted
@@ -113,22 +115,28 @@ module _ {ours : Names} (w : World) (room : HasRoom w) (q : QuietAmong ours w) (
 
   -- ---- nothing was seen
 
+  module _ (unknown : known.seen ≡ Unknown) (i : ℕ) (e : Entry) (at : IsAt w.entries i e) (named : e.name ≡ name) where
+    -- the entry's current version is in sight
+    current : (now : Known) (sight : Sight) → Some (version_tag (suc (length e.earlier))) ≡ Some sight.tag → now.seen ≡ seen_at sight
+        → Goes w.entries name known (step w.entries (search_for known.wanted)).entries now
+    current now sight tags is_seen =
+        let tag : sight.tag ≡ version_tag (suc (length e.earlier)) = cc in
+        let near : Near w.entries name now = at_current i e sight.id sight.revision at named (is_seen ∙ ap (λ (t : List ℕ). At sight.id t sight.revision) tag) in
+        nears unknown (subst (λ (es : List Entry). Near es name now) (sym (search_keeps w.entries known.wanted)) near)
+
+    found_goes : {l : Lesson} → LearnsShown w.book name known (shown (row_of (suc i) e)) l → Goes w.entries name known (step w.entries (search_for known.wanted)).entries l.known
+    found_goes (sees sight fits) = current (sighted known sight).known sight fits.tag refl
+    found_goes (agrees tag wanted tagged) = ends (sight_ends w q name known in_book (record { id = id_text (suc i); revision = row_revision known.wanted; tag = tag }) refl)
+    found_goes (differs sight d) = current (differing known sight).known sight d.tag refl
+
   found : known.seen ≡ Unknown → asking w.book name ≡ Some (Send (search_for known.wanted))
       → Finds w.entries name (search_for known.wanted) (answer_to w (search_for known.wanted)) → Advance w name known
   found unknown asks (finds i e at named says) =
       let request = search_for known.wanted in
       let s = shown (row_of (suc i) e) in
       let about : subject request ≡ Some name = search_subject known.wanted law ∙ ap Some (its_name w q name known in_book) in
-      let seen = sees w room q name known request s asks about in_book says in
-      let tags : Some (version_tag (suc (length e.earlier))) ≡ Some seen.sight.tag = seen.fits.tag in
-      let tag : seen.sight.tag ≡ version_tag (suc (length e.earlier)) = cc in
-      let near : Near w.entries name (sighted known seen.sight).known = at_current i e seen.sight.revision at named (ap (λ (t : List ℕ). At t seen.sight.revision) tag) in
-      record {
-        now = (sighted known seen.sight).known;
-        request = request;
-        leads = seen.leads;
-        goes = nears unknown (subst (λ (es : List Entry). Near es name (sighted known seen.sight).known) (sym (search_keeps w.entries known.wanted)) near);
-      }
+      let seen = seen_in w room q name known request s asks about in_book says in
+      record { now = seen.lesson.known; request = request; leads = seen.leads; goes = found_goes unknown i e at named seen.learns }
   found unknown asks (lacks none says) =
       let request = search_for known.wanted in
       let about : subject request ≡ Some name = search_subject known.wanted law ∙ ap Some (its_name w q name known in_book) in
@@ -152,16 +160,20 @@ module _ {ours : Names} (w : World) (room : HasRoom w) (q : QuietAmong ours w) (
         let revisions : Some sight.revision ≡ Some (row_revision known.wanted) = sym has ∙ ap content_revision same ∙ revised in
         cc
 
-    made : known.seen ≡ Absent → asking w.book name ≡ Some (Send (Create content)) → Creates w.entries content (answer_to w (Create content)) → Advance w name known
-    made absent asks (creates s same says) =
-        let seen = sees w room q name known (Create content) s asks (ap Some named) in_book says in
-        record {
-          now = (sighted known seen.sight).known;
-          request = Create content;
-          leads = seen.leads;
-          goes = ends (sight_ends w q name known in_book seen.sight (of_revision s seen.sight same seen.fits.revision));
-        }
-    made absent asks (meets i e at e_named says) =
+    -- the image of the wanted row in sight ends it
+    image_ends : (s : ShownRecord) {l : Lesson} → HasImage w.book known content → s.content ≡ content → LearnsShown w.book name known s l → IsDone l.known
+    image_ends s has same (sees sight fits) = sight_ends w q name known in_book sight (of_revision s sight same fits.revision)
+    image_ends s has same (agrees tag wanted tagged) = sight_ends w q name known in_book (record { id = s.id; revision = row_revision known.wanted; tag = tag }) refl
+    image_ends s has same (differs sight d) =
+        let test : is_wanted w.book known s.content ≡ true = ap (is_wanted w.book known) same ∙ image_wanted w.book known content has in
+        let clash : true ≡ false = sym test ∙ d.other in
+        absurd (cc)
+
+    made : HasImage w.book known content → known.seen ≡ Absent → asking w.book name ≡ Some (Send (Create content)) → Creates w.entries content (answer_to w (Create content)) → Advance w name known
+    made has absent asks (creates s same says) =
+        let seen = seen_in w room q name known (Create content) s asks (ap Some named) in_book says in
+        record { now = seen.lesson.known; request = Create content; leads = seen.leads; goes = ends (image_ends s has same seen.learns) }
+    made has absent asks (meets i e at e_named says) =
         let now = (forgetting (is_absent known.seen) known).known in
         record {
           now = now;
@@ -172,19 +184,19 @@ module _ {ours : Names} (w : World) (room : HasRoom w) (q : QuietAmong ours w) (
       where
         not_near : Near w.entries name known → ⊥
         not_near (truly_absent is none) = none i e at (e_named ∙ named)
-        not_near (at_current j f r there f_named is) = absurd (cc)
+        not_near (at_current j f id r there f_named is) = absurd (cc)
 
     -- ---- the record was seen at a version
 
-    module _ (id tag : List ℕ) (revision : RevisionValue) (is_seen : known.seen ≡ At tag revision) (v : IsVersion w.entries name id tag revision)
+    module _ (has : HasImage w.book known content) (id tag : List ℕ) (revision : RevisionValue) (is_seen : known.seen ≡ At id tag revision) (v : IsVersion w.entries name id tag revision)
         (asks : asking w.book name ≡ Some (Send (replacement id tag content))) where
       short : length (story v.entry) < last_version
       short = below_last (length (story v.entry)) (versions_few_of w.history w.entries q.inv.kept q.lawful v.place v.entry v.here (ap ours v.of_record ∙ its_ours w q name known in_book))
 
       stale_not_near : holds_match (Tags (tag ∷ [])) (Some (length (story v.entry))) ≡ false → Near w.entries name known → ⊥
       stale_not_near fails (truly_absent is none) = absurd (cc)
-      stale_not_near fails (at_current j f r there named_f is) =
-          let seens : At (version_tag (suc (length f.earlier))) r ≡ At tag revision = sym is ∙ is_seen in
+      stale_not_near fails (at_current j f i r there named_f is) =
+          let seens : At i (version_tag (suc (length f.earlier))) r ≡ At id tag revision = sym is ∙ is_seen in
           let tags : tag ≡ version_tag (suc (length f.earlier)) = cc in
           let place : j ≡ v.place = q.inv.kept.whole.distinct j v.place f v.entry there v.here (named_f ∙ sym v.of_record) in
           let entries : Some f ≡ Some v.entry = sym there ∙ ap (slice_get w.entries) place ∙ v.here in
@@ -195,13 +207,8 @@ module _ {ours : Names} (w : World) (room : HasRoom w) (q : QuietAmong ours w) (
       written : Replaces (replacement id tag content) (Tags (tag ∷ [])) content v.entry (answer_to w (replacement id tag content)) → Advance w name known
       written (renews s same says) =
           let request = replacement id tag content in
-          let seen = sees w room q name known request s asks (ap Some named) in_book says in
-          record {
-            now = (sighted known seen.sight).known;
-            request = request;
-            leads = seen.leads;
-            goes = ends (sight_ends w q name known in_book seen.sight (of_revision s seen.sight same seen.fits.revision));
-          }
+          let seen = seen_in w room q name known request s asks (ap Some named) in_book says in
+          record { now = seen.lesson.known; request = request; leads = seen.leads; goes = ends (image_ends s has same seen.learns) }
       written (misses fails says) =
           let request = replacement id tag content in
           let now = (forgetting (is_under (Tags (tag ∷ [])) known.seen) known).known in
@@ -211,7 +218,7 @@ module _ {ours : Names} (w : World) (room : HasRoom w) (q : QuietAmong ours w) (
             leads = leads_to w room q name known request (Stale (Tags (tag ∷ []))) asks (ap Some named) in_book says now refl;
             goes = forgets
                 (ap (λ (s : Seen). (forgetting (is_under (Tags (tag ∷ [])) s) known).known.seen) is_seen
-                ∙ ap (λ (b : Bool). (forgetting b known).known.seen) (alone_under tag revision))
+                ∙ ap (λ (b : Bool). (forgetting b known).known.seen) (alone_under id tag revision))
                 (λ unknown. absurd (cc)) (stale_not_near fails);
           }
 
@@ -228,23 +235,16 @@ module _ {ours : Names} (w : World) (room : HasRoom w) (q : QuietAmong ours w) (
     its_place : Has (names w) name
     its_place = row_counted w.history q.counted name known.wanted (accepted w q name known in_book)
 
-    by_seen : (seen : Seen) (id : Option (List ℕ)) → known.seen ≡ seen → known.id ≡ id → asking w.book name ≡ Some (Send (request_for seen id known.wanted content)) → Advance w name known
-    by_seen Unknown id is_seen is_id asks =
+    by_seen : (seen : Seen) → known.seen ≡ seen → asking w.book name ≡ Some (Send (request_for seen known.wanted content)) → Advance w name known
+    by_seen Unknown is_seen asks =
         found is_seen asks (subst (λ (n : RecordName). Finds w.entries n (search_for known.wanted) (answer_to w (search_for known.wanted))) (its_name w q name known in_book)
         (search_finds w.entries known.wanted law q.inv.kept.whole))
-    by_seen Absent id is_seen is_id asks = made content its_content its_revision is_seen asks (create_answers w.entries content (λ lacks. free_place w room (content_name content) (subst (λ (n : RecordName). Has (names w) n) (sym its_content) its_place) lacks))
-    by_seen (At tag revision) (Some id) is_seen is_id asks =
-        let sight = truth.seen tag revision is_seen in
-        let ids_same : Some sight.id ≡ Some id = sym sight.has_id ∙ is_id in
-        let same : sight.id ≡ id = cc in
-        let v : IsVersion w.entries name id tag revision = subst (λ (i : List ℕ). IsVersion w.entries name i tag revision) same sight.version in
-        written content its_content its_revision id tag revision is_seen v asks
+    by_seen Absent is_seen asks = made content its_content its_revision has is_seen asks (create_answers w.entries content (λ lacks. free_place w room (content_name content) (subst (λ (n : RecordName). Has (names w) n) (sym its_content) its_place) lacks))
+    by_seen (At id tag revision) is_seen asks =
+        let v = (truth.seen id tag revision is_seen).version in
+        written content its_content its_revision has id tag revision is_seen v asks
         (replace_answers w.entries v.place v.entry id content (Tags (tag ∷ [])) (few_entries w room) v.here v.has_id (v.of_record ∙ sym its_content)
-        (short content its_content its_revision id tag revision is_seen v asks))
-    by_seen (At tag revision) None is_seen is_id asks =
-        let sight = truth.seen tag revision is_seen in
-        let clash : None ≡ Some sight.id = sym is_id ∙ sight.has_id in
-        absurd (cc)
+        (short content its_content its_revision has id tag revision is_seen v asks))
 
     pub one_exchange : Advance w name known
-    one_exchange = by_seen known.seen known.id refl refl (asked w.book name known content in_book undone has)
+    one_exchange = by_seen known.seen refl (asked w.book name known content in_book undone has)

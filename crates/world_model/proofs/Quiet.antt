@@ -28,7 +28,7 @@ use Rattle.connector_core.specs.Changing.{limited, is_full, names_of}
 use Rattle.connector_core.specs.declared.asking.Ask.{Ask}
 use Rattle.connector_core.specs.declared.asking.Ask.TheVariants.{Nothing, Waits, Send}
 use Rattle.connector_core.specs.declared.changing.ChangeFault.{ChangeFault}
-use Rattle.world_model.specs.World.{World, Message, Asked, Answered, Event, Changes, Sends, Delivers, Cuts, Restarts_provider, Restarts_connector, changes, sends, delivers, message_at, happens, empty, names, judged, run}
+use Rattle.world_model.specs.World.{World, Message, Asked, Answered, Event, Changes, Sends, Delivers, Cuts, Restarts_provider, Restarts_connector, Doubts, changes, sends, delivers, message_at, happens, empty, names, judged, run}
 use Rattle.world_model.specs.Safe.{IsAt, Has, id_in, IsImage}
 use Rattle.world_model.specs.Untroubled.{IsLawful, request_content, longest_body, most_entries, NeverRefused}
 use Rattle.world_model.specs.Others.{Act, Ours, Theirs, acts, run_among, OfOurs, IsApart, KeepsApart}
@@ -216,6 +216,8 @@ event_quiet w (Cuts number length) own law room q = q
 event_quiet w Restarts_provider own law room q = q
 event_quiet w Restarts_connector own law room q =
     record { inv = act_inv w (Ours Restarts_connector) own q.inv; lawful = q.lawful; counted = q.counted; answered = q.answered }
+event_quiet w (Doubts name) own law room q =
+    record { inv = act_inv w (Ours (Doubts name)) own q.inv; lawful = q.lawful; counted = q.counted; answered = q.answered }
 
 pub none_quiet : (ours : Names) → QuietAmong ours empty
 none_quiet ours = record { inv = none_inv ours; lawful = λ i row at. absurd (cc); counted = none_counted; answered = λ i request answer at. absurd (cc) }

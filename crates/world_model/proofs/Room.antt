@@ -23,7 +23,7 @@ use Rattle.connector_core.specs.declared.accepting.Verdict.TheVariants as verdic
 use Rattle.connector_core.specs.declared.asking.Ask.{Ask}
 use Rattle.connector_core.specs.declared.asking.Ask.TheVariants.{Nothing, Waits, Send}
 use Rattle.connector_core.specs.declared.changing.ChangeFault.{ChangeFault}
-use Rattle.world_model.specs.World.{World, Message, Asked, Answered, Event, Changes, Sends, Delivers, Cuts, Restarts_provider, Restarts_connector, names, changes, sends, replies, delivers, message_at, happens, judged}
+use Rattle.world_model.specs.World.{World, Message, Asked, Answered, Event, Changes, Sends, Delivers, Cuts, Restarts_provider, Restarts_connector, Doubts, names, changes, sends, replies, delivers, message_at, happens, judged}
 use Rattle.world_model.specs.Safe.{IsAt, Has}
 use Rattle.world_model.specs.Untroubled.{most_entries}
 use Rattle.world_model.specs.Others.{Act, Ours, Theirs, acts, run_among}
@@ -152,6 +152,7 @@ event_places w (Delivers number) = delivers_places w (message_at w.messages numb
 event_places w (Cuts number count) = omega arith
 event_places w Restarts_provider = omega arith
 event_places w Restarts_connector = omega arith
+event_places w (Doubts name) = omega arith
 
 act_places : (w : World) (act : Act) → places w ≤ places (acts w act)
 act_places w (Ours event) = event_places w event

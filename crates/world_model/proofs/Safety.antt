@@ -1,5 +1,5 @@
 -- After every run the world is safe, and so it is among others.
-use Rattle.std.proofs.Common.{◌≡◌, ◌≢◌, ℕ, true, List, length, Option, Some, None, false, refl, ap, sym, ◌∙◌, subst}
+use Rattle.std.proofs.Common.{◌≡◌, ◌≢◌, ℕ, true, List, length, Some, false, refl, ap, sym, ◌∙◌, subst}
 use Rattle.std.proofs.lemmas.Bool.{false_from_ne_true}
 use Rattle.std.specs.List.{slice_get}
 use Rattle.scim_key.proofs.RevisionLaws.{none_first}
@@ -29,16 +29,11 @@ use Rattle.world_model.proofs.Sending.{row_of_record, wanted_of}
 
 -- ---- what is known about a record
 
-seen_truly : (es : List Entry) (name : RecordName) (known : Known) (id : Option (List ℕ)) (seen : Seen) → known.id ≡ id
-    → ((tag : List ℕ) (r : RevisionValue) → seen ≡ At tag r → InSight es name known tag r) → SeenTruly es name id seen
-seen_truly es name known id Unknown is sight = tt
-seen_truly es name known id Absent is sight = tt
-seen_truly es name known None (At tag r) is sight = let s = sight tag r refl in let clash : None ≡ Some s.id = sym is ∙ s.has_id in absurd (cc)
-seen_truly es name known (Some id) (At tag r) is sight =
-    let s = sight tag r refl in
-    let ids : Some s.id ≡ Some id = sym s.has_id ∙ is in
-    let same : s.id ≡ id = cc in
-    subst (λ (i : List ℕ). IsVersion es name i tag r) same s.version
+seen_truly : (es : List Entry) (name : RecordName) (known : Known) (seen : Seen) → ((id tag : List ℕ) (r : RevisionValue) → seen ≡ At id tag r → InSight es name known id tag r)
+    → SeenTruly es name seen
+seen_truly es name known Unknown sight = tt
+seen_truly es name known Absent sight = tt
+seen_truly es name known (At id tag r) sight = (sight id tag r refl).version
 
 module _ {ours : Names} (w : World) (inv : InvariantOf ours w) where
   -- every record of the book is ours
@@ -72,7 +67,7 @@ module _ {ours : Names} (w : World) (inv : InvariantOf ours w) where
         id = n.id;
         confirmed = λ some. is_reached name known (in_book_ours name known in_book) n (n.confirmed some);
         within = n.within;
-        seen = seen_truly w.entries name known known.id known.seen refl n.seen;
+        seen = seen_truly w.entries name known known.seen n.seen;
       }
 
 -- ---- leavers

@@ -1,5 +1,5 @@
 -- What the connector asks for is true: a Create and a Replace carry an image, and a Replace overwrites an older version.
-use Rattle.std.proofs.Common.{◌≡◌, ℕ, Bool, true, false, cond, List, Option, Some, None, Result, Ok, Err, refl, ap, sym, ◌∙◌, subst}
+use Rattle.std.proofs.Common.{◌≡◌, ℕ, Bool, true, false, not, ◌&&◌, cond, List, Option, Some, None, Result, Ok, Err, refl, ap, sym, ◌∙◌, subst}
 use Rattle.std.specs.Option.{option_map, option_and_then}
 use Rattle.std.specs.Result.{result_ok}
 use Rattle.scim_key.proofs.RecordLaws.{same as same_names}
@@ -47,20 +47,20 @@ not_done c w within unsettled = go (before c w) refl
         absurd (cc)
 
 -- the case in which something is sent
-record Sends (book : Book) (known : Known) (request : Request) : Type 0 where
-  unsettled : is_done known ≡ false
-  content : Content
-  has_image : image (known_id book) known.wanted ≡ Some content
-  is : request_for known.seen known.id known.wanted content ≡ request
+pub record Sends (book : Book) (known : Known) (request : Request) : Type 0 where
+  pub unsettled : is_done known ≡ false
+  pub content : Content
+  pub has_image : image (known_id book) known.wanted ≡ Some content
+  pub is : request_for known.seen known.wanted content ≡ request
 
-sends_of : (book : Book) (known : Known) (done : Bool) (found : Result Content ImageFault) (request : Request) → is_done known ≡ done → imaged (known_id book) known.wanted ≡ found
+pub sends_of : (book : Book) (known : Known) (done : Bool) (found : Result Content ImageFault) (request : Request) → is_done known ≡ done → imaged (known_id book) known.wanted ≡ found
     → cond done Nothing (asking_with found known) ≡ Send request → Sends book known request
 sends_of book known true found request unsettled has is = absurd (cc)
 sends_of book known false (Err (MemberWithoutId place)) request unsettled has is = absurd (cc)
 sends_of book known false (Err Memory) request unsettled has is = absurd (cc)
 sends_of book known false (Ok content) request unsettled has is = record { unsettled = unsettled; content = content; has_image = ap result_ok has; is = cc }
 
-asked_of : (o : Option Known) (f : Known → Ask) (ask : Ask) → option_map f o ≡ Some ask → (known : Known) × (o ≡ Some known) × (f known ≡ ask)
+pub asked_of : (o : Option Known) (f : Known → Ask) (ask : Ask) → option_map f o ≡ Some ask → (known : Known) × (o ≡ Some known) × (f known ≡ ask)
 asked_of None f ask is = absurd (cc)
 asked_of (Some known) f ask is = (known, refl, cc)
 
@@ -72,7 +72,7 @@ search_asked history es (User row) has = record { row = User row; accepted = has
 search_asked history es (Group row) has = record { row = Group row; accepted = has; is = refl }
 
 module _ (history : History) (es : List Entry) (book : Book) (follows : Follows book history) (noted : AllNoted es book) where
-  knows : GoesOn (known_id book) (id_in es)
+  pub knows : GoesOn (known_id book) (id_in es)
   knows name id is = go (book name) refl is
     where
       go : (o : Option Known) → book name ≡ o → option_and_then (λ known. known.id) o ≡ Some id → id_in es name ≡ Some id
@@ -107,30 +107,33 @@ module _ (history : History) (es : List Entry) (book : Book) (follows : Follows 
       wanted_image : IsImage history es (content_name content) content
       wanted_image = subst (λ (n : RecordName). IsImage history es n content) content_named is_image
 
-      overwrites : (id tag : List ℕ) (revision : RevisionValue) → is_done known ≡ false → known.id ≡ Some id → InSight es name known tag revision
-          → AskedTruly history es (replacement id tag content)
-      overwrites id tag revision unsettled has_id sight =
-          let ids_same : Some sight.id ≡ Some id = sym sight.has_id ∙ has_id in
-          let same : sight.id ≡ id = cc in
-          record {
-            image = wanted_image;
-            tag = tag;
-            alone = refl;
-            older = revision;
-            newer = row_revision known.wanted;
-            version = subst (λ (n : RecordName). IsVersion es n id tag revision) content_named (subst (λ (i : List ℕ). IsVersion es name i tag revision) same sight.version);
-            revision = at_revision;
-            rises = at_most_before revision known.confirmed (row_revision known.wanted) sight.counted (not_done known.confirmed (row_revision known.wanted) (noted name known in_book).within unsettled);
-          }
+      -- what is to be replaced is of a lower revision
+      lower : (id tag : List ℕ) (revision : RevisionValue) → is_done known ≡ false → InSight es name known id tag revision → (doubted : Bool) → known.is_doubted ≡ doubted
+          → revision ≺ row_revision known.wanted
+      lower id tag revision unsettled sight true doubted = sight.lower doubted
+      lower id tag revision unsettled sight false sure =
+          at_most_before revision known.confirmed (row_revision known.wanted) (sight.counted sure) (not_done known.confirmed (row_revision known.wanted) (noted name known in_book).within
+          (ap (λ (b : Bool). not b && same_revision known.confirmed (row_revision known.wanted)) (sym sure) ∙ unsettled))
 
-      request_asked : (seen : Seen) (id : Option (List ℕ)) → known.seen ≡ seen → known.id ≡ id → is_done known ≡ false → AskedTruly history es (request_for seen id known.wanted content)
-      request_asked Unknown id is_seen is_id unsettled = search_asked history es known.wanted wanted_there
-      request_asked Absent id is_seen is_id unsettled = wanted_image
-      request_asked (At tag revision) (Some id) is_seen is_id unsettled = overwrites id tag revision unsettled is_id ((noted name known in_book).seen tag revision is_seen)
-      request_asked (At tag revision) None is_seen is_id unsettled = search_asked history es known.wanted wanted_there
+      overwrites : (id tag : List ℕ) (revision : RevisionValue) → is_done known ≡ false → InSight es name known id tag revision → AskedTruly history es (replacement id tag content)
+      overwrites id tag revision unsettled sight = record {
+        image = wanted_image;
+        tag = tag;
+        alone = refl;
+        older = revision;
+        newer = row_revision known.wanted;
+        version = subst (λ (n : RecordName). IsVersion es n id tag revision) content_named sight.version;
+        revision = at_revision;
+        rises = lower id tag revision unsettled sight known.is_doubted refl;
+      }
+
+      request_asked : (seen : Seen) → known.seen ≡ seen → is_done known ≡ false → AskedTruly history es (request_for seen known.wanted content)
+      request_asked Unknown is_seen unsettled = search_asked history es known.wanted wanted_there
+      request_asked Absent is_seen unsettled = wanted_image
+      request_asked (At id tag revision) is_seen unsettled = overwrites id tag revision unsettled ((noted name known in_book).seen id tag revision is_seen)
 
   pub what_is_asked : (name : RecordName) (request : Request) → asking book name ≡ Some (Send request) → AskedTruly history es request
   what_is_asked name request is =
       let (known, in_book, asks) = asked_of (book name) (asking_of book) (Send request) is in
       let sends = sends_of book known (is_done known) (imaged (known_id book) known.wanted) request refl refl asks in
-      subst (λ (r : Request). AskedTruly history es r) sends.is (request_asked name known in_book sends.content sends.has_image known.seen known.id refl refl sends.unsettled)
+      subst (λ (r : Request). AskedTruly history es r) sends.is (request_asked name known in_book sends.content sends.has_image known.seen refl sends.unsettled)

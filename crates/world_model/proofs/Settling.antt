@@ -67,7 +67,7 @@ Phase (suc (suc (suc left))) es name known = Unit {0}
 
 seen_near : (es : List Entry) (name : RecordName) (known : Known) → Near es name known → known.seen ≡ Unknown → ⊥
 seen_near es name known (truly_absent is none) unknown = absurd (cc)
-seen_near es name known (at_current i e revision at named is) unknown = absurd (cc)
+seen_near es name known (at_current i e id revision at named is) unknown = absurd (cc)
 
 done_clash : (b : Bool) → b ≡ false → b ≡ true → ⊥
 done_clash b undone done = absurd (cc)
@@ -102,10 +102,10 @@ record Alone (w : World) (name : RecordName) (v : World) : Type 0 where
   history : v.history ≡ w.history
   others : (q : RecordName) → same_name name q ≡ false → v.book q ≡ w.book q
 
-put_here : (book : Book) (name : RecordName) (now : Known) → put book name now name ≡ Some now
+pub put_here : (book : Book) (name : RecordName) (now : Known) → put book name now name ≡ Some now
 put_here book name now = ap (λ (b : Bool). cond b (Some now) (book name)) ((same_names name name).1 refl)
 
-put_others : (book : Book) (name q : RecordName) (now : Known) → same_name name q ≡ false → put book name now q ≡ book q
+pub put_others : (book : Book) (name q : RecordName) (now : Known) → same_name name q ≡ false → put book name now q ≡ book q
 put_others book name q now other = ap (λ (b : Bool). cond b (Some now) (book q)) other
 
 kinds_apart : (name q : RecordName) → name.kind ≡ kinds.Group → q.kind ≡ kinds.User → same_name name q ≡ false
@@ -235,7 +235,7 @@ after_group kinds.Group kinds.User x y is_group is_user comes = absurd (cc)
 after_group kinds.Group kinds.Group x y is_group is_user comes = absurd (cc)
 
 -- no user comes after a group
-no_user_later : (name : RecordName) (names : List RecordName) (q : RecordName) → AllByRecursion (Comes name) names → name.kind ≡ kinds.Group → q.kind ≡ kinds.User → Has (name ∷ names) q → ⊥
+pub no_user_later : (name : RecordName) (names : List RecordName) (q : RecordName) → AllByRecursion (Comes name) names → name.kind ≡ kinds.Group → q.kind ≡ kinds.User → Has (name ∷ names) q → ⊥
 no_user_later name names q order is_group is_user (zero, at) =
     let same : name ≡ q = cc in
     let clash : kinds.Group ≡ kinds.User = sym is_group ∙ ap (λ n. n.kind) same ∙ is_user in
@@ -338,7 +338,7 @@ settles_among ours acts theirs apart law room leave = settles_from theirs leave 
 abbrev pub nobody : Meanwhile
 nobody w = []
 
-nobody_leaves_room : LeavesRoom all_names nobody
+pub nobody_leaves_room : LeavesRoom all_names nobody
 nobody_leaves_room = record { alone = λ w. tt; room = λ w room. room }
 
 exchanges_alone : (count : ℕ) (w : World) (name : RecordName) (v : World) → ExchangesAmong nobody w name count v → Exchanges w name count v

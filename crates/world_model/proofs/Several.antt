@@ -11,7 +11,7 @@ use Rattle.connector_core.specs.History.{History}
 use Rattle.connector_core.specs.Asking.{asking}
 use Rattle.connector_core.specs.declared.asking.Ask.{Ask}
 use Rattle.connector_core.specs.declared.asking.Ask.TheVariants.{Nothing, Waits, Send}
-use Rattle.world_model.specs.World.{World, Message, Asked, Answered, Event, Changes, Sends, Delivers, Cuts, Restarts_provider, Restarts_connector, sends, delivers, message_at, happens, empty}
+use Rattle.world_model.specs.World.{World, Message, Asked, Answered, Event, Changes, Sends, Delivers, Cuts, Restarts_provider, Restarts_connector, Doubts, sends, delivers, message_at, happens, empty}
 use Rattle.world_model.specs.Safe.{IsImage, Onward}
 use Rattle.world_model.specs.Invariant.{Names, AllOurs, AskedTruly, InvariantOf}
 use Rattle.world_model.specs.Others.{Act, Ours, Theirs, run_among, LeavesAlone, OfOurs, KeepsApart, HeadlineAmong, SafeAmong}
@@ -82,6 +82,7 @@ module _ (theirs ours : Names) (others : IsApartFrom theirs ours) (w : World) (i
   happening (Cuts number length) = stays ours (world_of w.entries side)
   happening Restarts_provider = stays ours (world_of w.entries side)
   happening Restarts_connector = stays ours (world_of w.entries side)
+  happening (Doubts name) = stays ours (world_of w.entries side)
 
 -- ---- one event
 

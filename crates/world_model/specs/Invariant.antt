@@ -2,7 +2,7 @@
 -- message when it was sent stays true.
 -- It is true of the records that are ours, whatever others wrote of other records. Without others, every record is
 -- ours.
-use Rattle.std.specs.Prelude.{◌≡◌, ◌≢◌, ℕ, ◌≤◌, Bool, true, List, [], ◌∷◌, length, Option, Some}
+use Rattle.std.specs.Prelude.{◌≡◌, ◌≢◌, ℕ, ◌≤◌, Bool, true, false, List, [], ◌∷◌, length, Option, Some}
 use Rattle.scim_key.specs.Revisions.{RevisionValue, no_revision, ◌≺◌, ◌≼◌}
 use Rattle.scim_key.specs.declared.records.RecordName.{RecordName}
 use Rattle.scim_version.specs.declared.conditions.Condition.{Condition}
@@ -17,13 +17,15 @@ use Rattle.provider_core.specs.Stories.{Entry, story}
 use Rattle.provider_core.specs.Tables.{IsWholeTable, IsFact, shown_in}
 use Rattle.source_csv.specs.Records.{row_name, row_revision}
 use Rattle.source_csv.specs.declared.rows.Row.{Row}
+use Rattle.mapping.specs.Images.{image}
 use Rattle.connector_core.specs.History.{History, rows_of, last_row, AllRise}
 use Rattle.connector_core.specs.Asking.{search_for}
-use Rattle.connector_core.specs.Book.{Book, wanted_row}
+use Rattle.connector_core.specs.Book.{Book, known_id, wanted_row}
 use Rattle.connector_core.specs.Learning.{content_revision}
 use Rattle.connector_core.specs.declared.knowledge.Known.{Known}
 use Rattle.connector_core.specs.declared.knowledge.Seen.TheVariants.{At}
 use Rattle.world_model.specs.World.{World, Message, Asked, Answered, Event, happens, empty, run}
+use Rattle.world_model.specs.Untroubled.{request_content}
 use Rattle.world_model.specs.Safe.{Has, IsAt, IsImage, IsVersion, StoryRises, id_in}
 
 -- ---- which records are ours
@@ -65,21 +67,21 @@ pub record HasVersion (es : List Entry) (name : RecordName) (known_id : Option (
   pub tag : List ℕ
   pub version : IsVersion es name id tag revision
 
--- a tag in sight is that of a version, whose revision counts as confirmed
-pub record InSight (es : List Entry) (name : RecordName) (known : Known) (tag : List ℕ)
+-- a tag in sight is that of a version, whose revision counts as confirmed; if the record is doubted, it is below the
+-- wanted one
+pub record InSight (es : List Entry) (name : RecordName) (known : Known) (id tag : List ℕ)
     (revision : RevisionValue) : Type 0 where
-  pub id : List ℕ
-  pub has_id : known.id ≡ Some id
   pub version : IsVersion es name id tag revision
-  pub counted : revision ≼ known.confirmed
+  pub counted : known.is_doubted ≡ false → revision ≼ known.confirmed
+  pub lower : known.is_doubted ≡ true → revision ≺ row_revision known.wanted
 
 -- what the connector knows about a record is true
 pub record Noted (es : List Entry) (name : RecordName) (known : Known) : Type 0 where
   pub id : (id : List ℕ) → known.id ≡ Some id → id_in es name ≡ Some id
   pub confirmed : known.confirmed ≢ no_revision → HasVersion es name known.id known.confirmed
   pub within : known.confirmed ≼ row_revision known.wanted
-  pub seen : (tag : List ℕ) (revision : RevisionValue) → known.seen ≡ At tag revision
-      → InSight es name known tag revision
+  pub seen : (id tag : List ℕ) (revision : RevisionValue) → known.seen ≡ At id tag revision
+      → InSight es name known id tag revision
 
 abbrev pub AllNoted : List Entry → Book → Type 0
 AllNoted es book = (name : RecordName) (known : Known) → book name ≡ Some known → Noted es name known
@@ -123,6 +125,22 @@ ToldTruly history es (Answered request answer) = ShowsTruly es answer
 abbrev pub AllTold : History → List Entry → List Message → Type 0
 AllTold history es messages = (i : ℕ) (message : Message) → IsAt messages i message → ToldTruly history es message
 
+-- ---- which ids are known
+
+-- the content is the image of an accepted row of the record, by the ids that the connector knows
+pub record IsMade (history : History) (book : Book) (name : RecordName) (content : Content) : Type 0 where
+  pub row : Row
+  pub accepted : Has (rows_of history name) row
+  pub image : image (known_id book) row ≡ Some content
+
+-- so is each content that was ever asked for, and each of our records
+pub record AllMade (ours : Names) (history : History) (es : List Entry) (book : Book)
+    (messages : List Message) : Type 0 where
+  pub asked : (request : Request) (content : Content) → Has messages (Asked request)
+      → request_content request ≡ Some content → IsMade history book (content_name content) content
+  pub held : (e : Entry) (content : Content) → Has es e → ours e.name ≡ true → Has (story e) content
+      → IsMade history book e.name content
+
 -- ---- the invariant and its laws
 
 -- what is true of source, connector, provider and messages, if these records are ours
@@ -133,6 +151,7 @@ pub record InvariantOf (ours : Names) (w : World) : Type 0 where
   pub kept : Kept ours w.history w.entries
   pub noted : AllNoted w.entries w.book
   pub told : AllTold w.history w.entries w.messages
+  pub made : AllMade ours w.history w.entries w.book w.messages
 
 -- Invariant: what is true of them if every record is ours
 abbrev pub Invariant : World → Type 0

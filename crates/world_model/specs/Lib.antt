@@ -7,3 +7,4 @@ pub mod Settled
 pub mod Others
 pub mod Several
 pub mod Room
+pub mod Healing

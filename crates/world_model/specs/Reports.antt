@@ -10,14 +10,15 @@ use Rattle.connector_core.specs.declared.asking.Ask.{Ask}
 use Rattle.connector_core.specs.declared.asking.Ask.TheVariants.{Nothing, Waits, Send}
 use Rattle.connector_core.specs.Learning.{learn}
 pub use Rattle.connector_core.specs.Noting.{learnt_of}
+use Rattle.connector_core.specs.declared.knowledge.Known.{Known}
 use Rattle.connector_core.specs.declared.learning.Learnt.{Learnt}
 use Rattle.connector_core.specs.declared.learning.LearnFault.{LearnFault}
 use Rattle.connector_core.specs.declared.changing.ChangeFault.{ChangeFault}
-use Rattle.world_model.specs.World.{World, Message, Asked, Answered, Event, Changes, Sends, Delivers, Cuts, Restarts_provider, Restarts_connector, judged, message_at, happens}
+use Rattle.world_model.specs.World.{World, Message, Asked, Answered, Event, Changes, Sends, Delivers, Cuts, Restarts_provider, Restarts_connector, Doubts, judged, message_at, happens}
 
 pub data Report : Type 0 where
   Judged : (verdict : Result Verdict ChangeFault) → Report
-  Unknown_record : Report  -- C7 of a Send
+  Unknown_record : Report  -- C7 of a Send or a Doubt
   Idle : Report  -- nothing is asked for
   Waiting : (member : List ℕ) → Report
   Finding : (number : ℕ) → Report  -- a Search was sent, as the message with this number
@@ -28,6 +29,7 @@ pub data Report : Type 0 where
   No_message : Report
   Cut_short : Report
   Restarted : Report
+  Doubted : Report
 
 -- the number of the next message
 abbrev pub next_number : World → ℕ
@@ -63,6 +65,10 @@ abbrev pub cut_report : (size : Message → ℕ) → Option Message → (length 
 cut_report size None length = No_message
 cut_report size (Some message) length = cut_at (nat_lt length (size message))
 
+abbrev pub doubt_report : Option Known → Report
+doubt_report None = Unknown_record
+doubt_report (Some known) = Doubted
+
 -- The report of an event; `size` is the number of bytes of a message
 abbrev pub report : (size : Message → ℕ) → World → Event → Report
 report size w (Changes row) = Judged (judged w row)
@@ -71,6 +77,7 @@ report size w (Delivers number) = delivery_report w (message_at w.messages numbe
 report size w (Cuts number length) = cut_report size (message_at w.messages number) length
 report size w Restarts_provider = Restarted
 report size w Restarts_connector = Restarted
+report size w (Doubts name) = doubt_report (w.book name)
 
 -- the reports of a list of events
 abbrev pub reports : (size : Message → ℕ) → World → List Event → List Report

@@ -1,5 +1,5 @@
 -- What holds after each event, and what holds from each moment to each later one.
-use Rattle.std.specs.Prelude.{◌≡◌, ◌≢◌, ℕ, suc, ◌<◌, Bool, false, true, not, List, ◌++◌, Option, Some, None}
+use Rattle.std.specs.Prelude.{◌≡◌, ◌≢◌, ℕ, suc, ◌<◌, Bool, false, true, not, List, ◌++◌, Option, Some}
 use Rattle.std.specs.List.{slice_get}
 use Rattle.std.specs.Option.{option_map}
 use Rattle.scim_key.specs.Identifiers.{id_text}
@@ -97,11 +97,10 @@ pub record IsVersion (es : List Entry) (name : RecordName) (id tag : List ℕ) (
   pub has_tag : tag ≡ version_tag (suc turn)
   pub at_revision : content_revision content ≡ Some revision
 
-abbrev pub SeenTruly : List Entry → RecordName → Option (List ℕ) → Seen → Type 0
-SeenTruly es name id Unknown = Unit {0}
-SeenTruly es name id Absent = Unit {0}
-SeenTruly es name None (At tag revision) = ⊥
-SeenTruly es name (Some id) (At tag revision) = IsVersion es name id tag revision
+abbrev pub SeenTruly : List Entry → RecordName → Seen → Type 0
+SeenTruly es name Unknown = Unit {0}
+SeenTruly es name Absent = Unit {0}
+SeenTruly es name (At id tag revision) = IsVersion es name id tag revision
 
 -- the record has an entry with this id, which holds this revision or a later one
 pub record IsReached (es : List Entry) (name : RecordName) (id : Option (List ℕ))
@@ -116,7 +115,7 @@ pub record KnownTruly (es : List Entry) (name : RecordName) (known : Known) : Ty
   pub id : (id : List ℕ) → known.id ≡ Some id → id_in es name ≡ Some id
   pub confirmed : known.confirmed ≢ no_revision → IsReached es name known.id known.confirmed
   pub within : known.confirmed ≼ row_revision known.wanted
-  pub seen : SeenTruly es name known.id known.seen
+  pub seen : SeenTruly es name known.seen
 
 -- Safe
 pub record Safe (w : World) : Type 0 where

@@ -17,7 +17,7 @@ use Rattle.scim_message.specs.Refusals.{error_of}
 use Rattle.provider_core.specs.Stories.{Entry, story, step}
 use Rattle.source_csv.specs.Records.{IsRow}
 use Rattle.connector_core.specs.Learning.{learn}
-use Rattle.world_model.specs.World.{World, Asked, Answered, Event, Changes, Sends, Delivers, Cuts, Restarts_provider, Restarts_connector, empty, run}
+use Rattle.world_model.specs.World.{World, Asked, Answered, Event, Changes, Sends, Delivers, Cuts, Restarts_provider, Restarts_connector, Doubts, empty, run}
 use Rattle.world_model.specs.Safe.{Has}
 
 -- each row that is offered is within the limits of the source
@@ -28,6 +28,7 @@ IsLawful (Delivers number) = Unit {0}
 IsLawful (Cuts number length) = Unit {0}
 IsLawful Restarts_provider = Unit {0}
 IsLawful Restarts_connector = Unit {0}
+IsLawful (Doubts name) = Unit {0}
 
 -- the content in the body of a request, if it has one
 abbrev pub request_content : Request → Option Content

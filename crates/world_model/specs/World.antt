@@ -9,7 +9,7 @@ use Rattle.provider_core.specs.Stories.{Entry, Step, step}
 use Rattle.source_csv.specs.declared.rows.Row.{Row}
 use Rattle.connector_core.specs.History.{History}
 use Rattle.connector_core.specs.declared.accepting.Verdict.{Verdict}
-use Rattle.connector_core.specs.Book.{Book, empty_book, reopened}
+use Rattle.connector_core.specs.Book.{Book, empty_book, doubted, reopened}
 use Rattle.connector_core.specs.Asking.{asking}
 use Rattle.connector_core.specs.declared.asking.Ask.{Ask}
 use Rattle.connector_core.specs.declared.asking.Ask.TheVariants.{Nothing, Waits, Send}
@@ -35,6 +35,7 @@ pub data Event : Type 0 where
   Cuts : (number : ℕ) → (length : ℕ) → Event  -- only the first bytes of a message arrive
   Restarts_provider : Event
   Restarts_connector : Event
+  Doubts : (name : RecordName) → Event  -- the connector doubts a record: somebody else may have changed it
 
 abbrev pub empty : World
 empty = record { history = []; entries = []; book = empty_book; messages = [] }
@@ -93,6 +94,7 @@ happens w (Delivers number) = delivers w (message_at w.messages number)
 happens w (Cuts number length) = w
 happens w Restarts_provider = w
 happens w Restarts_connector = record w { book = reopened w.book }
+happens w (Doubts name) = record w { book = doubted w.book name }
 
 -- One event after the other
 abbrev pub run : World → List Event → World

@@ -1,4 +1,15 @@
 //! Laws of all runs, with nothing to run.
+ghost use Rattle.world_model.specs.Healing.{
+  HealingIsActs,
+  Heals,
+  HealsAfterAnything,
+  HealsAmong,
+  HealsInRuns,
+  IsStart,
+  OldAnswersConfirm,
+  PromisedAgain,
+  TouchesOnlyWhatDiffers,
+};
 ghost use Rattle.world_model.specs.Invariant.{AlwaysKept, EventsKeepIt, FactsStay};
 ghost use Rattle.world_model.specs.Others.{
   ActsKeepIt,
@@ -27,6 +38,7 @@ ghost use Rattle.world_model.specs.Several.{
   SettlesForEach,
 };
 ghost use Rattle.world_model.specs.Untroubled.{NeverRefused};
+ghost use Rattle.world_model.specs.World.{empty};
 
 /// After every run, the connector judges each row as the history of the source alone does.
 pub fn judges_by_source()
@@ -131,4 +143,33 @@ pub fn settles_among()
     ensures by_three { SettlesAmong }
     ensures stays { StaysSettled }
     ensures any_time { ActsAnyTime }
+{}
+
+/// Whatever the provider holds, whoever wrote it and under whatever ids: if it has at most one resource per
+/// name and room for the records of the source, and no resource of a record shows a revision above the wanted
+/// one or is at its last version, doubting each record and at most two exchanges for each, in which nothing is
+/// lost, heal all records (`all`). Then each wanted revision is confirmed, and the provider holds what is
+/// wanted. Others may act before each exchange, if from then on they leave our records alone and leave room
+/// (`among`). After every run in which others leave our records alone, it is enough that there is room (`runs`).
+/// What is asked of book, rows and table is so after every run from any start in which anybody requests
+/// anything, about our records too (`anything`). A record whose resource is as it is wanted takes one search,
+/// and no resource changes (`untouched`). But an answer to a request from before the doubt may end it,
+/// whatever the provider holds by then (`old`).
+pub fn heals()
+    ensures all { Heals }
+    ensures among { HealsAmong }
+    ensures runs { HealsInRuns }
+    ensures anything { HealsAfterAnything }
+    ensures untouched { TouchesOnlyWhatDiffers }
+    ensures old { OldAnswersConfirm }
+{}
+
+/// From any start, whatever anybody did before: once all records are healed, the promise holds for them from
+/// then on, with old messages under way, if others leave our records alone (`again`). What heals them is acts
+/// too, so it may be part of what was done before (`acts`). A provider and a connector that have nothing are a
+/// start (`empty`).
+pub fn promised_again()
+    ensures again { PromisedAgain }
+    ensures acts { HealingIsActs }
+    ensures empty { IsStart empty }
 {}

@@ -4,7 +4,7 @@
 mod laws;
 
 pub use laws::{
-    always_onward, always_safe, headline_holds, holds_among_others, holds_for_each,
-    invariant_is_kept, judges_by_source, never_refused, never_refused_among, settles,
-    settles_among,
+    always_onward, always_safe, headline_holds, heals, holds_among_others, holds_for_each,
+    invariant_is_kept, judges_by_source, never_refused, never_refused_among, promised_again,
+    settles, settles_among,
 };
