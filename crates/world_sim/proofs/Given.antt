@@ -28,7 +28,7 @@ use Rattle.connector_core.specs.declared.changing.ChangeFault.{ChangeFault}
 use Rattle.connector_core.specs.declared.knowledge.Known.{Known}
 use Rattle.connector_core.specs.declared.knowledge.Seen.{Seen}
 use Rattle.connector_core.specs.declared.knowledge.Seen.TheVariants.{Unknown, Absent, At}
-use Rattle.world_model.specs.World.{World, Message, Asked, Answered, Event, Changes, Sends, Delivers, Cuts, Restarts_provider, Restarts_connector, sends, delivers, message_at, happens, judged, empty, run}
+use Rattle.world_model.specs.World.{World, Message, Asked, Answered, Event, Changes, Sends, Delivers, Cuts, Restarts_provider, Restarts_connector, Doubts, sends, delivers, message_at, happens, judged, empty, run}
 use Rattle.world_model.specs.Safe.{IsAt, Has}
 use Rattle.world_model.specs.Untroubled.{IsLawful}
 use Rattle.world_model.specs.Invariant.{Names, InvariantOf, all_names}
@@ -50,16 +50,15 @@ search_plain : (row : Row) → IsPlain (search_for row)
 search_plain (User row) = tt
 search_plain (Group row) = tt
 
-request_plain : (seen : Seen) (id : Option (List ℕ)) (row : Row) (content : Content) → IsPlain (request_for seen id row content)
-request_plain Unknown id row content = search_plain row
-request_plain Absent id row content = tt
-request_plain (At tag revision) (Some id) row content = refl
-request_plain (At tag revision) None row content = search_plain row
+request_plain : (seen : Seen) (row : Row) (content : Content) → IsPlain (request_for seen row content)
+request_plain Unknown row content = search_plain row
+request_plain Absent row content = tt
+request_plain (At id tag revision) row content = refl
 
 image_plain : (found : Result Content ImageFault) (known : Known) (request : Request) → asking_with found known ≡ Send request → IsPlain request
 image_plain (Ok content) known request is =
-    let same : request_for known.seen known.id known.wanted content ≡ request = cc in
-    subst (λ (r : Request). IsPlain r) same (request_plain known.seen known.id known.wanted content)
+    let same : request_for known.seen known.wanted content ≡ request = cc in
+    subst (λ (r : Request). IsPlain r) same (request_plain known.seen known.wanted content)
 image_plain (Err (MemberWithoutId place)) known request is = absurd (cc)
 image_plain (Err Memory) known request is = absurd (cc)
 
@@ -121,6 +120,7 @@ event_said w (Delivers number) whole said = delivers_said w number (message_at w
 event_said w (Cuts number length) whole said = said
 event_said w Restarts_provider whole said = said
 event_said w Restarts_connector whole said = said
+event_said w (Doubts name) whole said = said
 
 -- ---- valid rows
 
@@ -155,6 +155,7 @@ event_lawful w (Delivers number) law lawful = subst AllLawful (sym (delivers_his
 event_lawful w (Cuts number length) law lawful = lawful
 event_lawful w Restarts_provider law lawful = lawful
 event_lawful w Restarts_connector law lawful = lawful
+event_lawful w (Doubts name) law lawful = lawful
 
 -- ---- every act
 

@@ -1,7 +1,7 @@
 -- An event goes on as before, whatever a store holds that it doesn't read: what is proved of every store is proved of one of
 -- which nothing is known.
 use Rattle.std.proofs.Common.{◌≡◌, ℕ, true, false, inl, List, Option, Some, None, Result, Ok, Err, IfErr, IfOk, OnErr, OnOk, map, refl, ap, sym, subst, ◌∙◌}
-use Rattle.std.specs.FinMap.{keys}
+use Rattle.std.specs.FinMap.{get, keys}
 use Rattle.scim_client.specs.Answers.{AnswersSo}
 use Rattle.scim_client.specs.Spelling.{SpellsRequest}
 use Rattle.scim_key.specs.declared.records.RecordName.{RecordName}
@@ -14,14 +14,15 @@ use Rattle.source_csv.specs.declared.rows.Row.{Row}
 use Rattle.journal_core.specs.Entries.{EntryMap}
 use Rattle.journal_core.specs.declared.journals.Journal.{Ghosts as Journals}
 use Rattle.connector_core.specs.Asking.{asking}
-use Rattle.connector_core.specs.Book.{Book}
+use Rattle.connector_core.specs.Book.{Book, doubted}
 use Rattle.connector_core.specs.Changing.{accepted_map, book_after, judging}
 use Rattle.connector_core.specs.Learning.{after_learning, learn}
 use Rattle.connector_core.specs.Maps.{book_of}
+use Rattle.connector_core.specs.declared.knowledge.Known.{Known}
 use Rattle.connector_core.specs.State.{Leaves, LeavesBook, State}
 use Rattle.connector_core.specs.declared.asking.Ask.{Ask}
 use Rattle.connector_core.specs.declared.asking.Ask.TheVariants as asks
-use Rattle.world_model.specs.World.{World, Event, Asked, Answered, Changes, Delivers, Restarts_provider, Restarts_connector, Sends, arrives, message_at, names as world_names, sends}
+use Rattle.world_model.specs.World.{World, Event, Asked, Answered, Changes, Delivers, Doubts, Restarts_provider, Restarts_connector, Sends, arrives, message_at, names as world_names, sends}
 use Rattle.world_model.specs.Invariant.{Names}
 use Rattle.world_model.specs.Reports as model
 use Rattle.world_model.specs.Safe.{rows as world_rows}
@@ -40,7 +41,7 @@ use Rattle.world_sim.specs.declared.sides.Side.TheVariants.{Open, Shut}
 use Rattle.world_sim.specs.declared.worlds.World.{World as Running}
 use Rattle.world_sim.proofs.Reaching.{formed_same, is_at, is_still}
 use Rattle.world_sim.proofs.Restarts.{fails_staying, fails_to_change, fails_to_learn, fails_to_reopen_connector, fails_to_reopen_provider, forgotten_twice, reopens_connector, reopens_provider, restarted, staying, still_there}
-use Rattle.world_sim.proofs.Steps.{are_moved, changes_told, delivers_nothing, delivers_unread, fails_numbered, learns_told, request_told, sends_nothing, sends_told}
+use Rattle.world_sim.proofs.Steps.{are_moved, changes_told, delivers_nothing, delivers_unread, doubts_none, doubts_record, fails_numbered, learns_told, request_told, sends_nothing, sends_told}
 
 -- a connector that knows the same has the same book
 book_known : {J : Type 0} (was is : Side J) (book : Book) (names : List RecordName) → known_in is ≡ known_in was → HasBook was book names → HasBook is book names
@@ -210,6 +211,18 @@ module _ {R J : Type 0} (g : Registries R) (h : Journals J) (old : Running R J) 
   pub fails_on_send : (new : Running R J) (name : RecordName) (result : Result Report WorldFault) → IfErr result (λ fault. fault ≡ Memory) → OnErr result (Stays old new) → IfErr result (FailsOn g h old new (Sends name))
   fails_on_send new name (Ok told) memory stays = tt
   fails_on_send new name (Err fault) memory stays = subst (λ f. FailsOn g h old new (Sends name) f) (sym memory) (fails_on_memory new (Sends name) stays (λ w. refl))
+
+  -- ---- records that are doubted
+
+  pub doubts_on : (before after : State J) (name : RecordName) (known : Known) (told : Report) → old.connector ≡ Open before
+      → get before.book name ≡ Some known → after.journal ≡ before.journal → book_of after.book ≡ doubted (book_of before.book) name → keys after.book ≡ keys before.book
+      → report_of told ≡ model.Doubted → GoesOn g h old (record old { connector = Open after }) (Doubts name) told
+  doubts_on before after name known told e there journal made named said =
+      on_all (record old { connector = Open after }) (Doubts name) told (λ k l. doubts_record k l old before after name known told e there journal made named said)
+
+  pub doubts_none_on : (before : State J) (name : RecordName) (told : Report) → old.connector ≡ Open before → get before.book name ≡ None
+      → report_of told ≡ model.Unknown_record → GoesOn g h old old (Doubts name) told
+  doubts_none_on before name told e none said = on_all old (Doubts name) told (λ k l. doubts_none k l old before name told e none said)
 
   -- ---- messages that arrive
 

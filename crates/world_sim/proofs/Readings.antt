@@ -6,9 +6,10 @@ use Rattle.scim_message.specs.declared.messages.Answer.{Answer}
 use Rattle.scim_message.specs.declared.messages.Request.{Request}
 use Rattle.scim_message.specs.declared.refusals.Refusal.{Refusal}
 use Rattle.http_text.specs.Message.{Message as Incoming}
-use Rattle.http_text.specs.Forms.{request_form, response_form}
+use Rattle.http_text.specs.Forms.{request_form}
 use Rattle.http_text.specs.Wholes.{IsNoRequest, IsOneRequest}
-use Rattle.http_text.proofs.FormLaws.{request_laws, response_laws}
+use Rattle.http_text.proofs.FormLaws.{request_laws}
+use Rattle.http_text.proofs.InterimLemmas.{responses_apart}
 use Rattle.http_text.proofs.MessageLemmas.{messages_same, messages_apart}
 use Rattle.scim_http.specs.Meaning.{Asks}
 use Rattle.scim_http.proofs.MeaningLaws.{one_meaning}
@@ -100,7 +101,7 @@ module _ (bytes : List ℕ) where
 
     no_answer_cut : (request : Request) (one two : Answer) → AnswersSo bytes request one → AnswersSo (bytes ++ more) request two → ⊥
     no_answer_cut request one two part whole =
-        let apart = messages_apart response_form response_laws bytes more part.message whole.message part.is_message.0 whole.is_message.0 in
+        let apart = responses_apart bytes more part.message whole.message part.is_message whole.is_message in
         let none : length more ≡ 0 = ap length apart.1 in
         omega (arith, some, none)
 

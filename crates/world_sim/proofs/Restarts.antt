@@ -17,7 +17,7 @@ use Rattle.provider_core.proofs.StoryLaws.{rows_follow_stories}
 use Rattle.source_csv.specs.declared.rows.Row.{Row}
 use Rattle.journal_core.specs.Entries.{EntryMap}
 use Rattle.journal_core.specs.declared.journals.Journal.{Ghosts as Journals}
-use Rattle.connector_core.specs.Book.{Book, forgotten, reopened}
+use Rattle.connector_core.specs.Book.{Book, reopened, undoubted}
 use Rattle.connector_core.specs.Changing.{accepted_map, book_after, judging}
 use Rattle.connector_core.specs.Learning.{after_learning, learn}
 use Rattle.connector_core.specs.Maps.{book_of}
@@ -41,15 +41,15 @@ use Rattle.world_sim.proofs.Reaching.{formed_same, is_after, is_at, is_still}
 use Rattle.world_sim.proofs.Steps.{answer_read, are_moved, changed_book, here_book, here_leaves, here_names, learnt_book, message_same, names_after_row, was_honest}
 
 -- nothing was seen of what was just opened
-opened_known : (known : Option Known) → option_map opened (option_map entry_of known) ≡ option_map forgotten known
+opened_known : (known : Option Known) → option_map opened (option_map entry_of known) ≡ option_map undoubted known
 opened_known None = refl
 opened_known (Some known) = refl
 
-pub forgotten_twice : (known : Option Known) → option_map forgotten (option_map forgotten known) ≡ option_map forgotten known
+pub forgotten_twice : (known : Option Known) → option_map undoubted (option_map undoubted known) ≡ option_map undoubted known
 forgotten_twice None = refl
 forgotten_twice (Some known) = refl
 
-forgotten_entry : (known : Option Known) → option_map entry_of known ≡ option_map entry_of (option_map forgotten known)
+forgotten_entry : (known : Option Known) → option_map entry_of known ≡ option_map entry_of (option_map undoubted known)
 forgotten_entry None = refl
 forgotten_entry (Some known) = refl
 

@@ -18,7 +18,7 @@ use Rattle.world_model.specs.Others.{OfOurs, run_among}
 use Rattle.world_model.specs.Reports as model
 use Rattle.world_model.specs.Room.{HasRoom, LeavesRoom, Meanwhile}
 use Rattle.world_model.specs.Settled.{Exchanges, Turns, Wants, exchange}
-use Rattle.world_model.specs.World.{World, Message, Asked, Answered, Event, Changes, Sends, Delivers, Cuts, Restarts_provider, Restarts_connector, empty, happens, message_at, names, run, sends}
+use Rattle.world_model.specs.World.{World, Message, Asked, Answered, Event, Changes, Sends, Delivers, Cuts, Restarts_provider, Restarts_connector, Doubts, empty, happens, message_at, names, run, sends}
 use Rattle.world_model.proofs.Alone.{room_without_others}
 use Rattle.world_model.proofs.Calm.{calm_among}
 use Rattle.world_model.proofs.Counting.{few_names}
@@ -62,6 +62,7 @@ own_event ours (Delivers number) is = tt
 own_event ours (Cuts number length) is = absurd is
 own_event ours Restarts_provider is = absurd is
 own_event ours Restarts_connector is = absurd is
+own_event ours (Doubts name) is = absurd is
 
 pub own_events : (ours : Names) (events : List Event) → AllByRecursion IsSendOrDeliver events → AllByRecursion (OfOurs ours) events
 own_events ours [] all = tt
@@ -186,6 +187,7 @@ module _ {R J : Type 0} (g : Registries R) (h : Journals J) where
   is_known old new (Cuts number length) is registry journal = absurd is
   is_known old new Restarts_provider is registry journal = absurd is
   is_known old new Restarts_connector is registry journal = absurd is
+  is_known old new (Doubts name) is registry journal = absurd is
 
   no_restart : (w : World) (event : Event) → IsSendOrDeliver event → if_restart w event ≡ w
   no_restart w (Changes row) is = refl
@@ -194,6 +196,7 @@ module _ {R J : Type 0} (g : Registries R) (h : Journals J) where
   no_restart w (Cuts number length) is = refl
   no_restart w Restarts_provider is = refl
   no_restart w Restarts_connector is = absurd is
+  no_restart w (Doubts name) is = refl
 
   pub stops : (old between new : Running R J) → SendsAndDelivers g h old between → (next : Event) → IsSendOrDeliver next → (fault : WorldFault) → Fails g h between new next fault
       → Stops g h old new fault

@@ -21,7 +21,7 @@ use Rattle.world_model.specs.Invariant.{Names, AllOurs, AskedTruly, InvariantOf}
 use Rattle.world_model.specs.Others.{Ours, Theirs, LeavesAlone, OfOurs}
 use Rattle.world_model.specs.Safe.{IsImage}
 use Rattle.world_model.specs.Several.{Shared, Side, world_of, world_at, with_world}
-use Rattle.world_model.specs.World.{World, Message, Asked, Answered, Event, run, Changes, Sends, Delivers, Cuts, Restarts_provider, Restarts_connector, empty, happens, sends, delivers, message_at}
+use Rattle.world_model.specs.World.{World, Message, Asked, Answered, Event, run, Changes, Sends, Delivers, Cuts, Restarts_provider, Restarts_connector, Doubts, empty, happens, sends, delivers, message_at}
 use Rattle.world_model.proofs.Invariant.{message_there, among_inv, none_inv}
 use Rattle.world_model.proofs.Ranking.{record_ours}
 use Rattle.world_model.proofs.Several.{at_same, at_other}
@@ -128,6 +128,7 @@ module _ (theirs ours : Names) (apart : (name : _) → theirs name ≡ true → 
     reached_other (Cuts number length) = here
     reached_other Restarts_provider = here
     reached_other Restarts_connector = here
+    reached_other (Doubts name) = here
 
 -- the same of events one after the other
 pub reached_run : (theirs ours : Names) (apart : (name : _) → theirs name ≡ true → ours name ≡ false) (side : Side) (w : World) (events : List Event) → AllByRecursion (OfOurs theirs) events → InvariantOf theirs w

@@ -1,5 +1,5 @@
 -- What happens to the running world if a row is offered, a request is sent, or a message arrives.
-use Rattle.std.proofs.Common.{arith, ◌≡◌, ◌≢◌, ℕ, true, false, zero, suc, ◌-◌, ◌<◌, ◌≤◌, nat_lt, take, List, [], ◌∷◌, ◌++◌, Option, Some, None, Result, Ok, Err, map, length, refl, ap, sym, subst, ◌∙◌}
+use Rattle.std.proofs.Common.{arith, ◌≡◌, ◌≢◌, ℕ, Bool, true, false, cond, is_none, zero, suc, ◌-◌, ◌<◌, ◌≤◌, nat_lt, take, List, [], ◌∷◌, ◌++◌, Option, Some, None, Result, Ok, Err, map, length, refl, ap, sym, subst, ◌∙◌}
 use Rattle.std.proofs.lemmas.Bool.{false_from_ne_true}
 use Rattle.std.proofs.lemmas.Bool.Decides.{Decides-ltb}
 use Rattle.std.proofs.lemmas.List.{length-map, map_push}
@@ -24,13 +24,15 @@ use Rattle.source_csv.specs.Records.{IsRow, row_name}
 use Rattle.source_csv.specs.declared.rows.Row.{Row}
 use Rattle.journal_core.specs.declared.journals.Journal.{Ghosts as Journals}
 use Rattle.journal_core.specs.Entries.{EntryMap}
-use Rattle.connector_core.specs.History.{History}
+use Rattle.connector_core.specs.History.{History, same_name}
+use Rattle.connector_core.specs.declared.knowledge.Known.{Known}
+use Rattle.connector_core.proofs.Lessons.{none-doubted}
 use Rattle.connector_core.specs.declared.accepting.Verdict.{Verdict}
 use Rattle.connector_core.specs.declared.accepting.Verdict.TheVariants as verdicts
 use Rattle.connector_core.proofs.Keeping.{names-put}
 use Rattle.connector_core.proofs.LawProofs.{maps_accept}
 use Rattle.connector_core.specs.Asking.{asking}
-use Rattle.connector_core.specs.Book.{Book, wanting}
+use Rattle.connector_core.specs.Book.{Book, doubted, doubting, wanting}
 use Rattle.connector_core.specs.Changing.{names_of, names_with, judging, history_after, book_after, accepted_map}
 use Rattle.connector_core.specs.Learning.{learn, after_learning}
 use Rattle.connector_core.specs.Maps.{BookMap, book_of}
@@ -38,7 +40,7 @@ use Rattle.connector_core.specs.State.{AreOf, Leaves, LeavesBook, State, entry_o
 use Rattle.connector_core.specs.declared.asking.Ask.{Ask}
 use Rattle.connector_core.specs.declared.asking.Ask.TheVariants as asks
 use Rattle.connector_core.specs.declared.changing.ChangeFault.{ChangeFault}
-use Rattle.world_model.specs.World.{World, Message, names as world_names, Asked, Answered, Changes, Sends, Delivers, Cuts, judged, sends, delivers, message_at, with_message}
+use Rattle.world_model.specs.World.{World, Message, names as world_names, Asked, Answered, Changes, Sends, Delivers, Cuts, Doubts, judged, sends, delivers, message_at, with_message}
 use Rattle.world_model.specs.Invariant.{Names}
 use Rattle.world_model.specs.Reports as model
 use Rattle.world_model.specs.Safe.{rows as world_rows}
@@ -87,6 +89,23 @@ bytes_at sent (suc place) found some e = ap (option_map (λ s. s.bytes.items)) (
 -- the same of the same book with the same names
 pub are_moved : (found : EntryMap) (book later : Book) (names more : List RecordName) → book ≡ later → names ≡ more → AreOf found book names → AreOf found later more
 are_moved found book later names more same alike are = record { same = λ name. are.same name ∙ ap (λ (b : Book). option_map entry_of (b name)) same; listed = are.listed ∙ alike }
+
+-- the entries stay if a record is doubted
+doubted_entry : (b : Bool) (o : Option Known) → option_map entry_of o ≡ option_map entry_of (cond b (option_map doubting o) o)
+doubted_entry true None = refl
+doubted_entry true (Some known) = refl
+doubted_entry false o = refl
+
+doubted_kept : (found : EntryMap) (book : Book) (name : RecordName) (names : List RecordName) → AreOf found book names → AreOf found (doubted book name) names
+doubted_kept found book name names are = record { same = λ other. are.same other ∙ doubted_entry (same_name name other) (book other); listed = are.listed }
+
+pub row_none : (o : Option Known) → option_map (λ (known : Known). known.wanted) o ≡ None → o ≡ None
+row_none None e = refl
+row_none (Some known) e = absurd (cc)
+
+pub row_some : (o : Option Known) → is_none (option_map (λ (known : Known). known.wanted) o) ≡ false → (known : Known) × (o ≡ Some known)
+row_some None e = absurd (cc)
+row_some (Some known) e = (known, refl)
 
 -- ---- rows that are offered, and requests that are sent
 
@@ -165,6 +184,46 @@ module _ {R J : Type 0} (g : Registries R) (h : Journals J) (old : Running R J) 
       subst (λ r. Happens g h old (record old { connector = Open after }) (Changes r) told) same
       (changes_row before after copy told (subst IsRow (sym same) law) e was stays (λ honest left. (leaves honest left).done) made said)
   changes_told before after row copy (Err fault) law same e was stays leaves made said = tt
+
+  -- a record is doubted
+  pub doubts_record : (before after : State J) (name : RecordName) (known : Known) (told : Report) → old.connector ≡ Open before
+      → get before.book name ≡ Some known → after.journal ≡ before.journal → book_of after.book ≡ doubted (book_of before.book) name → keys after.book ≡ keys before.book
+      → report_of told ≡ model.Doubted → Happens g h old (record old { connector = Open after }) (Doubts name) told
+  doubts_record before after name known told e there journal made named said = record {
+    was = λ sound. record { registry = sound.registry; journal = was_honest before e (subst (λ j. h.is_honest j) journal sound.journal) };
+    base = refl;
+    stays_open = λ sound faithful. faithful;
+    journal_open = λ sound faithful. subst (λ j. h.is_faithful j) (sym journal) (here_faithful before e faithful);
+    is = λ sound w is own.
+        let book = made ∙ ap (λ b. doubted b name) (here_book before e w is) in
+        let names = named ∙ here_names before e w is in
+        is_after g h old (record old { connector = Open after }) w (Doubts name) own tt refl is (record {
+          rows = is.mirrors.rows;
+          found = is.mirrors.found;
+          table = is.mirrors.table;
+          book = (book, names);
+          kept = λ found holds. doubted_kept found w.book name (world_names w)
+              (is.mirrors.kept found (subst (λ s. h.may_hold (journal_in s) found) (sym e) (subst (λ j. h.may_hold j found) journal holds)));
+          messages = is.mirrors.messages;
+          texts = is.mirrors.texts;
+          formed = is.mirrors.formed;
+        });
+    report = λ sound w is. said ∙ sym (ap model.doubt_report (ap (λ b. b name) (sym (here_book before e w is)) ∙ there));
+  }
+
+  -- a record that isn't there
+  pub doubts_none : (before : State J) (name : RecordName) (told : Report) → old.connector ≡ Open before → get before.book name ≡ None
+      → report_of told ≡ model.Unknown_record → Happens g h old old (Doubts name) told
+  doubts_none before name told e none said = record {
+    was = λ sound. sound;
+    base = refl;
+    stays_open = λ sound faithful. faithful;
+    journal_open = λ sound faithful. faithful;
+    is = λ sound w is own.
+        let same : w.book ≡ doubted w.book name = subst (λ b. b ≡ doubted b name) (here_book before e w is) (none-doubted before.book name none) in
+        is_at g h old w (record w { book = doubted w.book name }) (ap (λ b. record w { book = b }) (sym same)) is;
+    report = λ sound w is. said ∙ sym (ap model.doubt_report (ap (λ b. b name) (sym (here_book before e w is)) ∙ none));
+  }
 
   asked_same : (before : State J) → old.connector ≡ Open before → (name : RecordName) (ask : Option Ask) → asking (book_of before.book) name ≡ ask → {ours : Names} (w : World) → IsAmong g h ours old w → asking w.book name ≡ ask
   asked_same before at name ask e w is = ap (λ b. asking b name) (sym (here_book before at w is)) ∙ e

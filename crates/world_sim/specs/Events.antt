@@ -10,7 +10,7 @@ use Rattle.connector_core.specs.declared.opening.ConnectorOpenFault.{ConnectorOp
 use Rattle.connector_core.specs.declared.opening.ConnectorOpenFault.TheVariants as opening
 use Rattle.scim_key.specs.declared.stores.StoreFault.{StoreFault}
 use Rattle.scim_key.specs.declared.stores.StoreFault.TheVariants as store
-use Rattle.world_model.specs.World.{Event, Changes, Sends, Delivers, Cuts, Restarts_provider, Restarts_connector}
+use Rattle.world_model.specs.World.{Event, Changes, Sends, Delivers, Cuts, Restarts_provider, Restarts_connector, Doubts}
 use Rattle.world_model.specs.Reports as model
 use Rattle.world_sim.specs.declared.events.Event.{Event as EventOf}
 use Rattle.world_sim.specs.declared.events.Event.TheVariants as events
@@ -26,6 +26,7 @@ event_of (events.Deliver number) = Delivers number
 event_of (events.Cut number length) = Cuts number length
 event_of events.RestartProvider = Restarts_provider
 event_of events.RestartConnector = Restarts_connector
+event_of (events.Doubt name) = Doubts name
 
 abbrev pub events_of : List EventOf → List Event
 events_of events = map event_of events
@@ -43,6 +44,7 @@ report_of (reports.Taught learnt) = model.Taught learnt
 report_of reports.NoMessage = model.No_message
 report_of reports.CutShort = model.Cut_short
 report_of reports.Restarted = model.Restarted
+report_of reports.Doubted = model.Doubted
 
 -- the report of an answer from which nothing is learnt, or the world's fault
 abbrev pub unlearnt : LearnFault → Result ReportOf WorldFault

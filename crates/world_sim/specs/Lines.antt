@@ -38,6 +38,7 @@ report_text (reports.Taught (Err fault)) = learn_fault_text fault
 report_text reports.NoMessage = codes "none"
 report_text reports.CutShort = codes "cut"
 report_text reports.Restarted = codes "restarted"
+report_text reports.Doubted = codes "doubted"
 
 abbrev pub flag_text : Bool → List ℕ
 flag_text true = codes "true"

@@ -15,7 +15,7 @@ use Rattle.journal_core.specs.Entries.{EntryMap}
 use Rattle.connector_core.specs.Book.{Book, reopened}
 use Rattle.connector_core.specs.Maps.{BookMap, book_of}
 use Rattle.connector_core.specs.State.{AreOf}
-use Rattle.world_model.specs.World.{World, Message, Asked, Answered, Event, Changes, Sends, Delivers, Cuts, Restarts_provider, Restarts_connector, message_at, names as world_names, arrives, happens, empty, run}
+use Rattle.world_model.specs.World.{World, Message, Asked, Answered, Event, Changes, Sends, Delivers, Cuts, Restarts_provider, Restarts_connector, Doubts, message_at, names as world_names, arrives, happens, empty, run}
 use Rattle.world_model.specs.Reports.{report, reports, arrival_report, sending_report}
 use Rattle.world_model.specs.Safe.{Has, Headline, Onward, Safe, rows as world_rows}
 use Rattle.world_model.specs.Untroubled.{IsLawful}
@@ -68,6 +68,7 @@ opens_after (Delivers number) done opens = opens
 opens_after (Cuts number length) done opens = opens
 opens_after Restarts_provider done opens = (done, opens.1)
 opens_after Restarts_connector done opens = (opens.0, done)
+opens_after (Doubts name) done opens = opens
 
 -- after a restart of a side its store is open
 abbrev pub IsOpenedBy : {R J : Type 0} → Registries R → Journals J → Running R J → Event → Type 0
@@ -77,6 +78,7 @@ IsOpenedBy g h r (Delivers number) = Unit {0}
 IsOpenedBy g h r (Cuts number length) = Unit {0}
 IsOpenedBy g h r Restarts_provider = g.is_honest r.provider → g.is_faithful r.provider
 IsOpenedBy g h r Restarts_connector = h.is_honest (journal_in r.connector) → h.is_faithful (journal_in r.connector)
+IsOpenedBy g h r (Doubts name) = Unit {0}
 
 -- Both stores returned what was committed
 pub record IsSound {R J : Type 0} (g : Registries R) (h : Journals J) (r : Running R J) : Type 0 where
@@ -187,6 +189,7 @@ IsShutOff r (Delivers number) = IsShutTo r (message_at (messages_of r.sent.items
 IsShutOff r (Cuts number length) = ⊥
 IsShutOff r Restarts_provider = ⊥
 IsShutOff r Restarts_connector = ⊥
+IsShutOff r (Doubts name) = is_open r.connector ≡ false
 
 -- out of memory isn't a fault of a store; a fault of a store was counted, or a side that is needed was shut before
 abbrev pub IsExcused : {R J : Type 0} → Registries R → Journals J → (old new : Running R J) → Event
@@ -205,6 +208,7 @@ if_restart w (Delivers number) = w
 if_restart w (Cuts number length) = w
 if_restart w Restarts_provider = w
 if_restart w Restarts_connector = happens w Restarts_connector
+if_restart w (Doubts name) = w
 
 -- the store of the side that a message goes to is open
 abbrev pub IsOpenTo : {R J : Type 0} → Registries R → Journals J → Running R J → Option Message → Type 0
@@ -220,6 +224,7 @@ IsKnown g h old new (Delivers number) = IsOpenTo g h new (message_at (messages_o
 IsKnown g h old new (Cuts number length) = Unit {0}
 IsKnown g h old new Restarts_provider = Unit {0}
 IsKnown g h old new Restarts_connector = Unit {0}
+IsKnown g h old new (Doubts name) = Unit {0}
 
 -- what may be found if a store is opened again is what one of these worlds has
 pub record HoldsOneOf {R J : Type 0} (g : Registries R) (h : Journals J) (r : Running R J) (w v : World) : Type 0 where
@@ -271,6 +276,7 @@ ReadsRegistry r (Delivers number) = IsRequest (message_at (messages_of r.sent.it
 ReadsRegistry r (Cuts number length) = ⊥
 ReadsRegistry r Restarts_provider = Unit {0}
 ReadsRegistry r Restarts_connector = ⊥
+ReadsRegistry r (Doubts name) = ⊥
 
 -- an event reads the journal: the connector restarts. All else goes by what the connector knows
 abbrev pub ReadsJournal : Event → Type 0
@@ -280,6 +286,7 @@ ReadsJournal (Delivers number) = ⊥
 ReadsJournal (Cuts number length) = ⊥
 ReadsJournal Restarts_provider = ⊥
 ReadsJournal Restarts_connector = Unit {0}
+ReadsJournal (Doubts name) = ⊥
 
 -- What an event that failed keeps, even if its fault shut a store: the connector knows and has seen what it had, unless
 -- the event was its restart

@@ -94,6 +94,7 @@ event_of_words records_in word rest =
     if bytes_eq word (codes "user") then change_in records_in kind.User rest
     else if bytes_eq word (codes "group") then change_in records_in kind.Group rest
     else if bytes_eq word (codes "send") then option_map events.Send (record_in rest)
+    else if bytes_eq word (codes "doubt") then option_map events.Doubt (record_in rest)
     else if bytes_eq word (codes "deliver") then option_map events.Deliver (number_in rest)
     else if bytes_eq word (codes "cut") then cut_in rest
     else if bytes_eq word (codes "restart") then restart_in rest

@@ -7,7 +7,7 @@ use Rattle.journal_core.specs.declared.journals.Journal.{Ghosts as Journals}
 use Rattle.world_model.specs.Invariant.{Names}
 use Rattle.world_model.specs.Room.{HasRoom}
 use Rattle.world_model.specs.Settled.{Exchanges, IsSettled, Rests, Turns, Wants, exchange}
-use Rattle.world_model.specs.World.{World, Event, Changes, Sends, Delivers, Cuts, Restarts_provider, Restarts_connector, names, run}
+use Rattle.world_model.specs.World.{World, Event, Changes, Sends, Delivers, Cuts, Restarts_provider, Restarts_connector, Doubts, names, run}
 use Rattle.world_sim.specs.Running.{Fails, Is, IsAmong, IsSound, Runs, journal_in, names_in}
 use Rattle.world_sim.specs.declared.reports.Report.{Report}
 use Rattle.world_sim.specs.declared.reports.WorldFault.{WorldFault}
@@ -24,6 +24,7 @@ IsSendOrDeliver (Delivers number) = Unit {0}
 IsSendOrDeliver (Cuts number length) = ⊥
 IsSendOrDeliver Restarts_provider = ⊥
 IsSendOrDeliver Restarts_connector = ⊥
+IsSendOrDeliver (Doubts name) = ⊥
 
 -- only Send and Deliver events were done, one after the other
 pub record SendsAndDelivers {R J : Type 0} (g : Registries R) (h : Journals J) (old new : Running R J) : Type 0 where

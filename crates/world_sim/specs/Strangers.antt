@@ -38,6 +38,7 @@ offered_by (events.Deliver number) = None
 offered_by (events.Cut number length) = None
 offered_by events.RestartProvider = None
 offered_by events.RestartConnector = None
+offered_by (events.Doubt name) = None
 
 -- the same by an act
 abbrev pub offer : Act → Option RecordName

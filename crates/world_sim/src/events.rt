@@ -13,6 +13,8 @@ pub enum Event {
     Deliver(usize),
     /// Only the first `length` bytes of the message with this number arrive.
     Cut { number: usize, length: usize },
+    /// The connector doubts a record: somebody else may have changed it.
+    Doubt(RecordName),
     /// The provider is opened again on its rows.
     RestartProvider,
     /// The connector is opened again on its journal.

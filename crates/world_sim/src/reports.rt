@@ -34,6 +34,8 @@ pub enum Report {
     /// Too few bytes arrived; nothing changed.
     CutShort,
     Restarted,
+    /// The connector doubts the record.
+    Doubted,
 }
 
 impl fmt::Display for Report {
@@ -65,6 +67,7 @@ impl fmt::Display for Report {
             Report::NoMessage => f.write_str("none"),
             Report::CutShort => f.write_str("cut"),
             Report::Restarted => f.write_str("restarted"),
+            Report::Doubted => f.write_str("doubted"),
         }
     }
 }

@@ -243,6 +243,7 @@ fn event_in(alloc: Global, line: &str) -> Result<Option<Event>, AllocError>
         "user" => change_in(alloc, Kind::User, rest),
         "group" => change_in(alloc, Kind::Group, rest),
         "send" => Ok(record_in(alloc, rest)?.map(Event::Send)),
+        "doubt" => Ok(record_in(alloc, rest)?.map(Event::Doubt)),
         "deliver" => Ok(number_in(rest).map(Event::Deliver)),
         "cut" => Ok(cut_in(rest)),
         "restart" => Ok(restart_in(rest)),

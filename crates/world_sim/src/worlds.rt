@@ -14,7 +14,7 @@ ghost use Rattle.scim_message.specs.declared.messages.Answer.{Answer};
 ghost use Rattle.scim_http.specs.Replies.{answer_text};
 ghost use Rattle.source_csv.specs.Records.{IsRow};
 ghost use Rattle.world_model.specs.Reports.{Judged, Taught, learnt_of, sending_report};
-ghost use Rattle.world_model.specs.World.{Answered, Asked, Changes, Cuts, Delivers, Restarts_connector, Restarts_provider, Sends};
+ghost use Rattle.world_model.specs.World.{Answered, Asked, Changes, Cuts, Delivers, Doubts, Restarts_connector, Restarts_provider, Sends};
 ghost use Rattle.world_sim.specs.Events.{event_of, report_of, unaccepted, unlearnt};
 ghost use Rattle.world_sim.specs.Fitting.{IsFormed};
 ghost use Rattle.world_sim.specs.GoingOn.{FailsOn, GoesOn, unknown_entries};
@@ -343,6 +343,31 @@ impl<R: Registry + Drop, J: Journal + Drop> World<R, J> {
         }
     }
 
+    /// The connector doubts a record.
+    fn doubt(&mut self, name: &RecordName) -> Result<Report, WorldFault>
+        ensures done { IfOk result
+            (Happens R.Registry J.Journal self.old self.new (Doubts name.now)) }
+        ensures fails { IfErr result
+            (Fails R.Registry J.Journal self.old self.new (Doubts name.now)) }
+        ensures goes_on { IfOk result
+            (GoesOn R.Registry J.Journal self.old self.new (Doubts name.now)) }
+        ensures fails_on { IfErr result
+            (FailsOn R.Registry J.Journal self.old self.new (Doubts name.now)) }
+        ensures keeps { OnErr result (Keeps self.old self.new (Doubts name.now)) }
+        ensures apart { Apart self.old self.new (Doubts name.now) }
+        ensures shut { IsShutOff self.old (Doubts name.now) → result ≡ Err Store }
+        ensures opens { opens_of self.new ≡ opens_of self.old }
+    {
+        let Side::Open(connector) = &mut self.connector else {
+            return Err(WorldFault::Store);
+        };
+        if connector.row(name).is_none() {
+            return Ok(Report::UnknownRecord);
+        }
+        connector.doubt(name);
+        Ok(Report::Doubted)
+    }
+
     /// Sends a request.
     fn post(&mut self, request: Request) -> Result<Report, WorldFault>
         ensures sent { IfOk result (Posts self.old self.new request) }
@@ -506,6 +531,7 @@ impl<R: Reopen + Drop, J: ReopenJournal + Drop> World<R, J> {
         match event {
             Event::Change(row) => self.change(row),
             Event::Send(name) => self.send(name),
+            Event::Doubt(name) => self.doubt(name),
             Event::Deliver(number) => self.deliver(*number),
             Event::Cut { number, length } => self.cut(*number, *length),
             Event::RestartProvider => self.restart_provider(),
