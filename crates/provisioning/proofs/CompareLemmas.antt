@@ -17,7 +17,7 @@ use Rattle.source_csv.specs.declared.rows.Row.{Row}
 use Rattle.journal_core.proofs.Trees.{name_from_test, turned}
 use Rattle.connector_core.specs.Maps.{BookMap, book_of}
 use Rattle.connector_core.specs.declared.knowledge.Known.{Known}
-use Rattle.provisioning.specs.Comparing.{all_absent, confirmed_row, is_absent, kept_more, kept_row}
+use Rattle.provisioning.specs.Bases.{all_absent, confirmed_row, is_absent, kept_more, kept_row}
 use Rattle.provisioning.specs.declared.sources.Sources.{Sources}
 
 abbrev Kept : Type 0

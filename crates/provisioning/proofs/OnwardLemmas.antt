@@ -9,14 +9,16 @@ use Rattle.scim_key.specs.declared.records.RecordName.{RecordName}
 use Rattle.scim_message.specs.declared.messages.Answer.{Answer}
 use Rattle.scim_message.specs.declared.messages.Request.{Request}
 use Rattle.journal_core.specs.declared.journals.Journal.{Ghosts}
+use Rattle.scim_resource.specs.Rows.{ShownRecord}
+use Rattle.source_csv.specs.Records.{row_revision}
 use Rattle.connector_core.specs.History.{same_name}
 use Rattle.connector_core.specs.Book.{Book, confirmed_if, confirmed_of, put, wanted_row}
-use Rattle.connector_core.specs.Learning.{Finding, Shows, Shows_none, Taken, Stale, Learning, Lesson, after_learning, finding, fit, forgetting, is_absent, is_under, learn, lesson, none_sighted, noted, or_fault, sighted, subject}
+use Rattle.connector_core.specs.Learning.{Finding, Shows, Shows_none, Taken, Stale, Learning, Lesson, absent, after_learning, agreeing, compared, differing, finding, fit, fit_differing, forgetting, is_absent, is_under, is_wanted, learn, lesson, none_sighted, noted, nothing_new, or_fault, sighted, subject}
 use Rattle.connector_core.specs.Maps.{BookMap, book_of}
 use Rattle.connector_core.specs.State.{State}
 use Rattle.connector_core.specs.declared.knowledge.Known.{Known}
 use Rattle.connector_core.specs.declared.learning.LearnFault.{LearnFault}
-use Rattle.connector_core.specs.declared.learning.LearnFault.TheVariants.{NoSuchRecord, Unfit}
+use Rattle.connector_core.specs.declared.learning.LearnFault.TheVariants.{NoSuchRecord, Unfit, Unversioned}
 use Rattle.connector_core.specs.declared.learning.Learnt.{Learnt}
 use Rattle.provisioning.specs.Exchanges.{Becomes, Came, Learns, answered, lost}
 use Rattle.provisioning.specs.Onward.{Onward}
@@ -39,9 +41,13 @@ Goes known next = (next.wanted ≡ known.wanted) × (known.confirmed ≼ next.co
 stays : (known : Known) → Goes known known
 stays known = (refl, reflexive_up_to known.confirmed)
 
+doubting_goes : (doubted : Bool) (known : Known) → Goes known (cond doubted (absent known) (nothing_new known)).known
+doubting_goes true known = (refl, reflexive_up_to known.confirmed)
+doubting_goes false known = (refl, reflexive_up_to known.confirmed)
+
 none_sighted_goes : (id : Option (List ℕ)) (known : Known) → Goes known (none_sighted id known).known
 none_sighted_goes None known = (refl, reflexive_up_to known.confirmed)
-none_sighted_goes (Some id) known = (refl, reflexive_up_to known.confirmed)
+none_sighted_goes (Some id) known = doubting_goes known.is_doubted known
 
 forgetting_goes : (concerned : Bool) (known : Known) → Goes known (forgetting concerned known).known
 forgetting_goes true known = (refl, reflexive_up_to known.confirmed)
@@ -50,18 +56,33 @@ forgetting_goes false known = (refl, reflexive_up_to known.confirmed)
 moved : (known : Known) (l m : Lesson) → l ≡ m → Goes known l.known → Goes known m.known
 moved known l m is goes = subst (λ (x : Lesson). Goes known x.known) is goes
 
-lesson_goes : (name : RecordName) (known : Known) (said : Finding) (l : Lesson) → lesson name known said ≡ Ok l → Goes known l.known
-lesson_goes name known (Shows s) l is =
+compared_goes : (agrees : Bool) (name : RecordName) (known : Known) (s : ShownRecord) (l : Lesson) → compared agrees name known s ≡ Ok l → Goes known l.known
+compared_goes true name known s l is =
+    let (tag, has, made) = through (or_fault Unversioned s.version) (λ tag. Ok (agreeing known s.id tag)) l is in
+    let same : agreeing known s.id tag ≡ l = cc in
+    moved known (agreeing known s.id tag) l same (refl, later_above_first known.confirmed (row_revision known.wanted))
+compared_goes false name known s l is =
+    let (sight, fits, made) = through (fit_differing name known s) (λ sight. Ok (differing known sight)) l is in
+    let same : differing known sight ≡ l = cc in
+    moved known (differing known sight) l same (refl, reflexive_up_to known.confirmed)
+
+shown_goes : (doubted : Bool) (book : Book) (name : RecordName) (known : Known) (s : ShownRecord) (l : Lesson)
+    → cond doubted (compared (is_wanted book known s.content) name known s) (fit name known s >>= λ sight. Ok (sighted known sight)) ≡ Ok l → Goes known l.known
+shown_goes true book name known s l is = compared_goes (is_wanted book known s.content) name known s l is
+shown_goes false book name known s l is =
     let (sight, fits, made) = through (fit name known s) (λ x. Ok (sighted known x)) l is in
     let same : sighted known sight ≡ l = cc in
     moved known (sighted known sight) l same (refl, later_above_first known.confirmed sight.revision)
-lesson_goes name known Shows_none l is =
+
+lesson_goes : (book : Book) (name : RecordName) (known : Known) (said : Finding) (l : Lesson) → lesson book name known said ≡ Ok l → Goes known l.known
+lesson_goes book name known (Shows s) l is = shown_goes known.is_doubted book name known s l is
+lesson_goes book name known Shows_none l is =
     let same : none_sighted known.id known ≡ l = cc in
     moved known (none_sighted known.id known) l same (none_sighted_goes known.id known)
-lesson_goes name known Taken l is =
+lesson_goes book name known Taken l is =
     let same : forgetting (is_absent known.seen) known ≡ l = cc in
     moved known (forgetting (is_absent known.seen) known) l same (forgetting_goes (is_absent known.seen) known)
-lesson_goes name known (Stale if_match) l is =
+lesson_goes book name known (Stale if_match) l is =
     let same : forgetting (is_under if_match known.seen) known ≡ l = cc in
     moved known (forgetting (is_under if_match known.seen) known) l same (forgetting_goes (is_under if_match known.seen) known)
 
@@ -88,7 +109,7 @@ abbrev noting : Book → RecordName → Lesson → Result Learning LearnFault
 noting book name l = Ok (noted book name l)
 
 abbrev of_said : Book → RecordName → Known → Finding → Result Learning LearnFault
-of_said book name known said = lesson name known said >>= noting book name
+of_said book name known said = lesson book name known said >>= noting book name
 
 abbrev of_known : Book → Request → Answer → RecordName → Known → Result Learning LearnFault
 of_known book request answer name known = finding request answer >>= of_said book name known
@@ -101,10 +122,10 @@ learnt_goes book request answer result is =
     let (name, named, after_name) = through (or_fault Unfit (subject request)) (of_name book request answer) result is in
     let (known, has, after_known) = through (or_fault NoSuchRecord (book name)) (of_known book request answer name) result after_name in
     let (said, says, after_said) = through (finding request answer) (of_said book name known) result after_known in
-    let (l, teaches, made) = through (lesson name known said) (noting book name) result after_said in
+    let (l, teaches, made) = through (lesson book name known said) (noting book name) result after_said in
     let same : noted book name l ≡ result = cc in
     subst (λ (x : Learning). BookGoes book x.book) same
-    (put_goes book name known l.known (was_there NoSuchRecord (book name) known has) (lesson_goes name known said l teaches))
+    (put_goes book name known l.known (was_there NoSuchRecord (book name) known has) (lesson_goes book name known said l teaches))
 
 after_goes : (book : Book) (request : Request) (answer : Answer) → BookGoes book (after_learning book (learn book request answer))
 after_goes book request answer = go (learn book request answer) refl

@@ -12,11 +12,11 @@ use Rattle.connector_core.specs.Maps.{BookMap, book_of}
 use Rattle.connector_core.specs.State.{State}
 use Rattle.provisioning.specs.Leavers.{is_switched_off, names_in_use}
 use Rattle.provisioning.specs.Offering.{OffersAll}
-use Rattle.provisioning.specs.Comparing.{IsBasis, confirmed_row, is_absent, is_among, row_in}
+use Rattle.provisioning.specs.Bases.{IsBasis, confirmed_row, is_absent, is_among, row_in}
 use Rattle.provisioning.specs.Plans.{Plans, WritesPlan, plan_line, plan_lines}
 use Rattle.provisioning.specs.Runs.{IsUntold}
 use Rattle.provisioning.specs.Sources.{are_whole}
-use Rattle.provisioning.specs.declared.comparing.Basis.{Basis}
+use Rattle.provisioning.specs.declared.bases.Basis.{Basis}
 use Rattle.provisioning.specs.declared.faults.RunFault.{RunFault}
 use Rattle.provisioning.specs.declared.offering.Judged.{Judged}
 use Rattle.provisioning.specs.declared.planning.Plan.{Plan}

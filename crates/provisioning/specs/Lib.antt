@@ -19,7 +19,7 @@ pub mod Windows
 pub mod Abreast
 pub mod DryRuns
 pub mod Changes
-pub mod Comparing
+pub mod Bases
 pub mod Plans
 pub mod Leavers
 pub mod Quiet

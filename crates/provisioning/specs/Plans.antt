@@ -17,7 +17,7 @@ use Rattle.connector_core.specs.Book.{Book, confirmed_of, wanted_row}
 use Rattle.connector_core.specs.Maps.{BookMap, book_of}
 use Rattle.connector_core.specs.State.{State}
 use Rattle.provisioning.specs.Changes.{changes_from, changes_text}
-use Rattle.provisioning.specs.Comparing.{confirmed_row, is_absent}
+use Rattle.provisioning.specs.Bases.{confirmed_row, is_absent}
 use Rattle.provisioning.specs.Leavers.{leavers}
 use Rattle.provisioning.specs.Offering.{OffersAll}
 use Rattle.provisioning.specs.Runs.{IsUntold}

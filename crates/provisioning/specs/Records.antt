@@ -1,9 +1,9 @@
 -- The exchanges for one record, and its state after them.
-use Rattle.std.specs.Prelude.{◌≡◌, ◌≢◌, ◌⊎◌, ◌<◌, ◌≤◌, ◌^◌, ◌-◌, ℕ, List, [], ◌∷◌, ◌++◌, length, Option, Some, None, Result, Ok, Err, IsOk}
+use Rattle.std.specs.Prelude.{◌≡◌, ◌⊎◌, ◌<◌, ◌≤◌, ◌^◌, ◌-◌, ℕ, false, List, [], ◌∷◌, ◌++◌, length, Option, Some, None, Result, Ok, Err, IsOk}
 use Rattle.std.specs.Option.{option_or}
 use Rattle.scim_key.specs.declared.records.RecordName.{RecordName}
 use Rattle.journal_core.specs.declared.journals.Journal.{Ghosts}
-use Rattle.connector_core.specs.Asking.{asking}
+use Rattle.connector_core.specs.Asking.{asking, is_done_at}
 use Rattle.connector_core.specs.Book.{Book, confirmed_of, wanted_of}
 use Rattle.connector_core.specs.Maps.{book_of}
 use Rattle.connector_core.specs.State.{State}
@@ -48,18 +48,19 @@ last_fault (e ∷ es) = option_or (last_fault es) (fault_in (outcome e.came))
 
 -- ---- the state of a record
 
--- There is nothing to ask for: the wanted revision, this one, is confirmed; or the record waits for this member; or
--- there is no such record
+-- There is nothing to ask for: the wanted revision, this one, is confirmed, and isn't doubted; or the record waits for
+-- this member; or there is no such record
 abbrev pub Rests : Book → RecordName → Standing → Type 0
-Rests book name (Confirmed revision) = (revision ≡ confirmed_of book name) × (revision ≡ wanted_of book name)
+Rests book name (Confirmed revision) = (asking book name ≡ Some asks.Nothing)
+    × (revision ≡ confirmed_of book name) × (revision ≡ wanted_of book name)
 Rests book name (Waits member) = asking book name ≡ Some (asks.Waits member)
 Rests book name (Unconfirmed fault) = (asking book name ≡ None) × (fault ≡ Some NoSuchRecord)
 
--- all exchanges were made, and the wanted revision isn't confirmed
+-- all exchanges were made, and the wanted revision isn't confirmed, or is doubted
 pub record IsSpent (book : Book) (name : RecordName) (count : ℕ) (last : Option RecordFault)
     (standing : Standing) : Type 0 where
   pub all : count ≡ most_exchanges
-  pub unconfirmed : confirmed_of book name ≢ wanted_of book name
+  pub unconfirmed : is_done_at book name ≡ false
   pub last_is : standing ≡ Unconfirmed last
 
 abbrev pub Stands : Book → RecordName → (count : ℕ) → (last : Option RecordFault) → Standing → Type 0

@@ -1,5 +1,5 @@
 -- A record while several are under way: how it is begun, how it goes on, and how it ends.
-use Rattle.std.specs.Prelude.{◌≡◌, ◌≢◌, ◌⊎◌, ◌<◌, ◌≤◌, ◌+◌, ◌==◌, ◌&&◌, ◌||◌, ℕ, Bool, true, false, not, nat_lt}
+use Rattle.std.specs.Prelude.{◌≡◌, ◌⊎◌, ◌<◌, ◌≤◌, ◌+◌, ◌==◌, ◌&&◌, ◌||◌, ℕ, Bool, true, false, not, nat_lt}
 use Rattle.std.specs.Prelude.{List, [], ◌∷◌, Option, Some, None, Result, Ok, Err}
 use Rattle.std.specs.Option.{option_or}
 use Rattle.scim_key.specs.declared.records.RecordName.{RecordName}
@@ -10,8 +10,8 @@ use Rattle.scim_client.specs.Exchanges.{SpellsSent, Starts, IsReply, Reads, Exch
 use Rattle.scim_client.specs.Requests.{text_of}
 use Rattle.scim_client.specs.declared.exchange.ExchangeFault.{ExchangeFault}
 use Rattle.journal_core.specs.declared.journals.Journal.{Ghosts}
-use Rattle.connector_core.specs.Asking.{asking}
-use Rattle.connector_core.specs.Book.{Book, confirmed_of, wanted_of}
+use Rattle.connector_core.specs.Asking.{asking, is_done_at}
+use Rattle.connector_core.specs.Book.{Book}
 use Rattle.connector_core.specs.Maps.{book_of}
 use Rattle.connector_core.specs.State.{State}
 use Rattle.connector_core.specs.declared.asking.Ask.TheVariants.{Send}
@@ -64,10 +64,10 @@ says_busy None = false
 abbrev pub may_wait : Option RecordFault → Account → Bool
 may_wait fault a = says_busy fault && (not a.has_waited && nat_lt a.exchanges most_exchanges)
 
--- all exchanges were made, and the wanted revision isn't confirmed
+-- all exchanges were made, and the wanted revision isn't confirmed, or is doubted
 pub record IsSpentAt (book : Book) (a : Account) (standing : Standing) : Type 0 where
   pub all : most_exchanges ≤ a.exchanges
-  pub unconfirmed : confirmed_of book a.name ≢ wanted_of book a.name
+  pub unconfirmed : is_done_at book a.name ≡ false
   pub last_is : standing ≡ Unconfirmed a.last
 
 -- there is nothing to ask for, or no exchange is left

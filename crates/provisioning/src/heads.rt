@@ -1,5 +1,5 @@
 //! The head of a response, as far as it was kept.
-use http_text::FIELD_LIMIT;
+use http_text::{FIELD_LIMIT, INTERIM_LIMIT};
 use httparse::Status;
 use httparse::spans::{EMPTY_HEADER_SPAN, HeaderSpan, Span, parse_response};
 
@@ -13,8 +13,20 @@ pub(crate) struct Head<'a> {
 }
 
 impl<'a> Head<'a> {
-    /// The head at the front of these bytes, if it is there whole, with a status that has a meaning.
+    /// The first head of these bytes that isn't interim, if it is there whole, with a status that has a meaning.
     pub fn of(bytes: &'a [u8]) -> Option<Head<'a>> {
+        let mut rest = bytes;
+        for _ in 0..=INTERIM_LIMIT {
+            let head = Head::at_front(rest)?;
+            if head.status >= 200 || head.status == 101 {
+                return Some(head);
+            }
+            rest = head.rest();
+        }
+        None
+    }
+
+    fn at_front(bytes: &'a [u8]) -> Option<Head<'a>> {
         let mut fields = [EMPTY_HEADER_SPAN; FIELD_LIMIT];
         match parse_response(bytes, &mut fields) {
             Ok(Status::Complete(head)) if head.code >= 100 => Some(Head {

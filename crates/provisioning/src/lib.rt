@@ -3,9 +3,9 @@
 //! the wanted revision is confirmed.
 #![tactic(auto)]
 
+mod bases;
 mod carrying;
 mod changes;
-mod comparing;
 mod delaying;
 mod delays;
 mod dialing;

@@ -154,7 +154,10 @@ impl fmt::Display for Misreading {
             Misreading::NoResponse(bytes) => write!(f, "not one HTTP response: \"{bytes}\""),
             Misreading::LongHead => write!(f, "the head has more than {KEPT_LIMIT} bytes"),
             Misreading::Coded { status, coding } => {
-                write!(f, "{status} with Transfer-Encoding: {coding}")
+                write!(
+                    f,
+                    "{status} with Transfer-Encoding: {coding}, not alone, malformed, or above {RESPONSE_BODY_LIMIT}"
+                )
             }
             Misreading::WithoutLength { status } => write!(f, "{status} without Content-Length"),
             Misreading::OtherLength { status, length } => {

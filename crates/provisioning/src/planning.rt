@@ -4,14 +4,14 @@ ghost use Rattle.std.specs.Io.KnownBytes.{Appends};
 ghost use Rattle.std.specs.List.{count_by};
 ghost use Rattle.connector_core.specs.Maps.{book_of};
 ghost use Rattle.provisioning.specs.Changes.{changes_from};
-ghost use Rattle.provisioning.specs.Comparing.{is_among, row_in};
+ghost use Rattle.provisioning.specs.Bases.{is_among, row_in};
 ghost use Rattle.provisioning.specs.Leavers.{is_switched_off};
 ghost use Rattle.provisioning.specs.Plans.{Plans, WritesPlan, plan_line, plan_lines, planned_text};
 ghost use Rattle.provisioning.specs.Runs.{IsUntold};
 ghost use Rattle.provisioning.specs.Sources.{are_whole};
 
+use crate::bases::Basis;
 use crate::changes::changes_from;
-use crate::comparing::Basis;
 use crate::faults::{RunFault, unwritten};
 use crate::leavers::{names_in_use, switched_off};
 use crate::offering::{Hear, offer_all};

@@ -11,11 +11,11 @@ use std::fmt;
 /// The state of a record after its exchanges.
 #[derive(Drop)]
 pub enum Standing {
-    /// The wanted revision, this one, is confirmed.
+    /// The wanted revision, this one, is confirmed, and isn't doubted.
     Confirmed(Revision),
     /// A group waits for this member, its first by key without an id.
     Waits(Key),
-    /// The wanted revision isn't confirmed. The last fault, if there was one.
+    /// The wanted revision isn't confirmed, or is doubted. The last fault, if there was one.
     Unconfirmed(Option<RecordFault>),
 }
 
@@ -52,9 +52,8 @@ pub(crate) fn standing_after<J: Journal>(
 ) -> Standing
     ensures { Stands (book_of connector.now.book) name.now most_exchanges last result }
 {
-    let confirmed = connector.confirmed(name);
-    if confirmed == connector.wanted(name) {
-        Standing::Confirmed(confirmed)
+    if connector.is_done(name) {
+        Standing::Confirmed(connector.confirmed(name))
     } else {
         Standing::Unconfirmed(last)
     }

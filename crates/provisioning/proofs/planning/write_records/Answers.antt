@@ -1,5 +1,5 @@
 use Rattle.connector_core.specs.Maps.{book_of}
-use Rattle.provisioning.specs.Comparing.{is_among, row_in}
+use Rattle.provisioning.specs.Bases.{is_among, row_in}
 use Rattle.provisioning.proofs.PlanLemmas.{one_more}
 use Rattle.provisioning.proofs.planning.write_records.Goals as goal
 

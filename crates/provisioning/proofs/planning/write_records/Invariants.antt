@@ -1,7 +1,7 @@
 use Rattle.std.proofs.Common.{take}
 use Rattle.std.specs.Io.KnownBytes.{Appends}
 use Rattle.connector_core.specs.Maps.{book_of}
-use Rattle.provisioning.specs.Comparing.{is_among, row_in}
+use Rattle.provisioning.specs.Bases.{is_among, row_in}
 use Rattle.provisioning.specs.Plans.{plan_lines}
 use Rattle.provisioning.proofs.planning.write_records.Given as goal
 

@@ -13,8 +13,9 @@ pub returns-in-Ok-Nothing : goal.returns-in-Ok-Nothing
 returns-in-Ok-Nothing g c =
     let book = book_of c.args.connector.now.book in
     let said : ok_or (asking book c.args.account.name) NoSuchRecord ≡ Ok Nothing = c.in-Ok-Nothing.ensures ∙ ap Ok c.in-Ok-Nothing.field-0-is in
-    let rests = confirmed_at_rest book c.args.account.name (was_asked (asking book c.args.account.name) Nothing said) in
-    ([], adds_none (g.D.Dial.opened c.args.dial.now), (refl, refl, inl (c.confirmed.ensures, c.confirmed.ensures ∙ rests)))
+    let asked = was_asked (asking book c.args.account.name) Nothing said in
+    let rests = confirmed_at_rest book c.args.account.name asked in
+    ([], adds_none (g.D.Dial.opened c.args.dial.now), (refl, refl, inl (asked, c.confirmed.ensures, c.confirmed.ensures ∙ rests)))
 
 pub returns-in-Ok-Send : goal.returns-in-Ok-Send
 returns-in-Ok-Send g c =

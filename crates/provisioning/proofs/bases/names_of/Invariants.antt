@@ -1,6 +1,6 @@
 use Rattle.std.proofs.Common.{◌≡◌, map, take}
 use Rattle.source_csv.specs.Records.{row_name}
-use Rattle.provisioning.proofs.comparing.names_of.Given as goal
+use Rattle.provisioning.proofs.bases.names_of.Given as goal
 
 -- the names so far
 abbrev pub invariant-loop-row : goal.invariant-loop-row

@@ -12,7 +12,7 @@ use Rattle.connector_core.specs.Book.{Book, confirmed_of, wanted_of, wanted_row}
 use Rattle.connector_core.specs.Maps.{BookMap, book_of}
 use Rattle.provisioning.specs.Offering.{rows_in}
 use Rattle.provisioning.specs.Sources.{absent_in}
-use Rattle.provisioning.specs.declared.comparing.Basis.{Basis}
+use Rattle.provisioning.specs.declared.bases.Basis.{Basis}
 use Rattle.provisioning.specs.declared.sources.Source.{Source}
 use Rattle.provisioning.specs.declared.sources.Sources.{Sources}
 

@@ -1,7 +1,7 @@
 use Rattle.std.proofs.Common.{◌∙◌}
 use Rattle.std.proofs.lemmas.Iterator.Adapters.{YieldsList-from_vec}
 use Rattle.provisioning.proofs.CompareLemmas.{collected}
-use Rattle.provisioning.proofs.comparing.absent_from.Goals as goal
+use Rattle.provisioning.proofs.bases.absent_from.Goals as goal
 
 pub returns : goal.returns
 returns c =

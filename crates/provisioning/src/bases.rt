@@ -6,7 +6,7 @@ ghost use Rattle.scim_key.specs.Records.{name_cmp};
 ghost use Rattle.scim_key.specs.declared.records.RecordName.{RecordName as Name};
 ghost use Rattle.source_csv.specs.Records.{row_name};
 ghost use Rattle.connector_core.specs.Maps.{book_of};
-ghost use Rattle.provisioning.specs.Comparing.{IsBasis, absent_names, absent_names_if, all_absent, confirmed_row, is_absent, is_among, kept_more, kept_row, row_in};
+ghost use Rattle.provisioning.specs.Bases.{IsBasis, absent_names, absent_names_if, all_absent, confirmed_row, is_absent, is_among, kept_more, kept_row, row_in};
 
 use crate::offering::rows_in;
 use crate::sources::{Source, Sources};

@@ -4,9 +4,9 @@ use Rattle.std.specs.Option.{option_copied}
 use Rattle.std.specs.Vec.Iter.{into_iter_items}
 use Rattle.scim_key.specs.Records.{same_name}
 use Rattle.connector_core.specs.Maps.{book_of}
-use Rattle.provisioning.specs.Comparing.{confirmed_row, kept_row}
+use Rattle.provisioning.specs.Bases.{confirmed_row, kept_row}
 use Rattle.provisioning.proofs.CompareLemmas.{kept_none, one_kept, unlisted}
-use Rattle.provisioning.proofs.comparing.confirmed_rows.Goals as goal
+use Rattle.provisioning.proofs.bases.confirmed_rows.Goals as goal
 
 pub loop-name-init : goal.loop-name-init
 loop-name-init g c name none =
