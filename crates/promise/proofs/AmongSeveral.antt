@@ -11,7 +11,7 @@ use Rattle.scim_message.specs.declared.messages.Request.TheVariants.{Create, Ret
 use Rattle.scim_message.specs.declared.refusals.Refusal.{Refusal}
 use Rattle.provider_core.specs.Stories.{Entry}
 use Rattle.provider_core.specs.declared.registry.Registry.{Ghosts as Registries}
-use Rattle.http_text.specs.Forms.{request_form}
+use Rattle.http_text.specs.Forms.{IsRequestMessage}
 use Rattle.http_text.specs.Message.{Message}
 use Rattle.scim_http.proofs.MeaningLaws.{one_meaning}
 use Rattle.scim_client.specs.Requests.{text_of}
@@ -29,7 +29,7 @@ use Rattle.world_sim.proofs.Fitting.{messages_are_read_among}
 use Rattle.promise.specs.Among.{AsksAlone, StepAmong.mine, StepAmong.theirs as elsewhere_served, TraceAmong, TraceAmong.here, TraceAmong.next}
 use Rattle.promise.specs.AmongSeveral.{Shared, StepOfSeveral, StepOfSeveral.on, StepOfSeveral.elsewhere, TraceOfSeveral, TraceOfSeveral.here as nothing_yet, TraceOfSeveral.next as after, TracesOfSeveralAreRuns, nobody, side_of, state_at, state_of, with_state}
 use Rattle.promise.specs.AmongTyped.{HasOurs}
-use Rattle.promise.specs.Traces.{IsAtFront, State, Step, Step.offers, Step.asks, Step.serves, Step.hears, Step.reopens, Step.rests, start}
+use Rattle.promise.specs.Traces.{IsAtFront, State, Step, Step.offers, Step.asks, Step.serves, Step.hears, Step.doubts, Step.reopens, Step.rests, start}
 use Rattle.promise.specs.Typed as own
 use Rattle.promise.specs.AmongTyped as typed
 use Rattle.promise.proofs.AmongTraces.{IsNamed, alone_if, along, mine_keeps, mine_named, traces_are_runs_among}
@@ -56,7 +56,7 @@ same_request x request is = cc
 module _ {R J I O P Q : Type 0} (g : Registries R) (h : Journals J) (received : I → Option (List ℕ)) (posted : O → Option (List ℕ)) (remaining : P → Option (List ℕ)) (contents : Q → Option (List ℕ)) (settled : Settles g) (base : List ℕ) (is_base : IsBase base) where
   -- whatever message is at the front of what it sent
   sent_alone : (theirs ours : Names) (s : State) → IsApartFrom theirs ours → AllOurs theirs s.history → TraceAmong g h received posted remaining contents base theirs start s → (request : Request) → Has s.sent request
-      → (m : Message) → IsAtFront request_form (text_of base request) m → AsksAlone ours m
+      → (m : Message) → IsAtFront IsRequestMessage (text_of base request) m → AsksAlone ours m
   sent_alone theirs ours s apart all trace request has m front x asks_x =
       let on_it = along g h received posted remaining contents settled base theirs is_base start s own.start all typed.here (spoken_start base) trace in
       let r = ran theirs own.start on_it.later empty (subst (AllOurs theirs) on_it.spoken.history all) on_it.trace at_start in
@@ -90,6 +90,7 @@ module _ {R J I O P Q : Type 0} (g : Registries R) (h : Journals J) (received : 
   others_step theirs ours a b p same apart all trace (offers row law) = subst (λ rows. Goes ours p (record p { rows = rows })) (sym same) here
   others_step theirs ours a b p same apart all trace (asks name request is formed) = subst (λ rows. Goes ours p (record p { rows = rows })) (sym same) here
   others_step theirs ours a b p same apart all trace (hears request book x) = subst (λ rows. Goes ours p (record p { rows = rows })) (sym same) here
+  others_step theirs ours a b p same apart all trace (doubts name book is names) = subst (λ rows. Goes ours p (record p { rows = rows })) (sym same) here
   others_step theirs ours a b p same apart all trace (reopens found book are is) = subst (λ rows. Goes ours p (record p { rows = rows })) (sym same) here
   others_step theirs ours a b p same apart all trace rests = subst (λ rows. Goes ours p (record p { rows = rows })) (sym same) here
 

@@ -16,7 +16,7 @@ use Rattle.provider_core.specs.Tables.{IsWholeTable, entry_named}
 use Rattle.provider_core.specs.declared.registry.Registry.{Ghosts as Registries}
 use Rattle.provider_core.proofs.TableLaws.{found_by_name}
 use Rattle.http_text.specs.declared.fault.ReadFault.{ReadFault}
-use Rattle.http_text.specs.Forms.{request_form}
+use Rattle.http_text.specs.Forms.{IsRequestMessage}
 use Rattle.http_text.specs.Judging.{is_head}
 use Rattle.http_text.specs.Message.{Message}
 use Rattle.scim_http.specs.Meaning.{Asks}
@@ -39,7 +39,7 @@ use Rattle.world_sim.proofs.Fitting.{messages_are_read_among}
 use Rattle.promise.specs.Among.{AsksAlone, PromisedAmong, ServesTheirs, StepAmong, StepAmong.mine, StepAmong.theirs, TraceAmong, TraceAmong.here, TraceAmong.next, TracesAreRunsAmong, TracesWithoutOthers}
 use Rattle.promise.specs.AmongTyped as typed
 use Rattle.promise.specs.AmongTyped.{HasOurs}
-use Rattle.promise.specs.Traces.{IsAt, IsAtFront, LeavesBook, Promised, State, Step, Step.offers, Step.asks, Step.serves, Step.hears, Step.reopens, Step.rests, Trace, Trace.here as alone_here, Trace.next as alone_next, id_among, start}
+use Rattle.promise.specs.Traces.{IsAt, IsAtFront, LeavesBook, Promised, State, Step, Step.offers, Step.asks, Step.serves, Step.hears, Step.doubts, Step.reopens, Step.rests, Trace, Trace.here as alone_here, Trace.next as alone_next, id_among, start}
 use Rattle.promise.specs.Typed as own
 use Rattle.promise.proofs.AmongTyped.{Keeps, changes_keep, early_apart, ran, rows_ours, typed_traces_are_runs_among}
 use Rattle.promise.proofs.Traces.{IsRead, Settles, Spoken, goes, mirrored, spoken_start}
@@ -109,6 +109,7 @@ module _ {R J I O P Q : Type 0} (g : Registries R) (h : Journals J) (received : 
   mine_keeps old new (asks name request is formed) = λ row has. has
   mine_keeps old new (serves request rows out s) = λ row has. has
   mine_keeps old new (hears request book x) = λ row has. has
+  mine_keeps old new (doubts name book is names) = λ row has. has
   mine_keeps old new (reopens found book are is) = λ row has. has
   mine_keeps old new rests = λ row has. has
 
@@ -140,6 +141,7 @@ module _ {R J I O P Q : Type 0} (g : Registries R) (h : Journals J) (received : 
   mine_named old new (asks name request is formed) named = named
   mine_named old new (serves request rows out s) named = named
   mine_named old new (hears request book x) named = came_same request x.came x.before x.after book x.becomes x.leaves ∙ ap keys x.was ∙ named
+  mine_named old new (doubts name book is names) named = names ∙ named
   mine_named old new (reopens found book are is) named = is.names ∙ are.listed ∙ named
   mine_named old new rests named = named
 
@@ -151,7 +153,7 @@ module _ {R J I O P Q : Type 0} (g : Registries R) (h : Journals J) (received : 
 -- ---- somebody else's connection
 
 -- what is read of what comes leaves our records alone
-pub alone_if : (ours : Names) (came : List ℕ) (read : Result Message ReadFault) → ((m : Message) → IsAtFront request_form came m → AsksAlone ours m) → IfOk read (IsAtFront request_form came) → IfOk read (AsksAlone ours)
+pub alone_if : (ours : Names) (came : List ℕ) (read : Result Message ReadFault) → ((m : Message) → IsAtFront IsRequestMessage came m → AsksAlone ours m) → IfOk read (IsAtFront IsRequestMessage came) → IfOk read (AsksAlone ours)
 alone_if ours came (Ok m) alone front = alone m front
 alone_if ours came (Err fault) alone front = tt
 

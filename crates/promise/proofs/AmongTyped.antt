@@ -24,7 +24,7 @@ use Rattle.connector_core.specs.declared.accepting.Verdict.TheVariants as verdic
 use Rattle.connector_core.specs.declared.asking.Ask.{Ask}
 use Rattle.connector_core.specs.declared.asking.Ask.TheVariants.{Nothing, Waits, Send}
 use Rattle.connector_core.specs.declared.changing.ChangeFault.{ChangeFault}
-use Rattle.world_model.specs.World.{World, Message, Asked, Answered, Event, Changes, Sends, Delivers, Cuts, Restarts_provider, Restarts_connector, changes, delivers, empty, happens, judged, message_at, sends}
+use Rattle.world_model.specs.World.{World, Message, Asked, Answered, Event, Changes, Sends, Delivers, Cuts, Restarts_provider, Restarts_connector, Doubts, changes, delivers, empty, happens, judged, message_at, sends}
 use Rattle.world_model.specs.Safe.{Has, IsAt}
 use Rattle.world_model.specs.Untroubled.{IsLawful}
 use Rattle.world_model.specs.Invariant.{AllOurs, Names}
@@ -135,6 +135,7 @@ event_keeps w (Delivers number) = delivers_keep w (message_at w.messages number)
 event_keeps w (Cuts number length) = λ r has. has
 event_keeps w Restarts_provider = λ r has. has
 event_keeps w Restarts_connector = λ r has. has
+event_keeps w (Doubts name) = λ r has. has
 
 act_keeps : (w : World) (act : Act) → Keeps w.history (acts w act).history
 act_keeps w (Ours event) = event_keeps w event
@@ -191,6 +192,8 @@ module _ (ours : Names) where
       with_act w (Ours Restarts_provider) led tt tt (kept_apart (happens w Restarts_provider) led law.1 alone.1 all)
   kept_apart w (Ours Restarts_connector ∷ led) law alone all =
       with_act w (Ours Restarts_connector) led tt tt (kept_apart (happens w Restarts_connector) led law.1 alone.1 all)
+  kept_apart w (Ours (Doubts name) ∷ led) law alone all =
+      with_act w (Ours (Doubts name)) led tt tt (kept_apart (happens w (Doubts name)) led law.1 alone.1 all)
 
 -- ---- the connector has a record for each accepted row
 

@@ -6,7 +6,7 @@ use Rattle.scim_message.specs.declared.messages.Answer.{Answer}
 use Rattle.scim_message.specs.declared.messages.Request.{Request}
 use Rattle.provider_core.specs.declared.registry.Registry.{Ghosts as Registries}
 use Rattle.http_text.specs.Counts.{Reading, Writing, fresh_reading, fresh_writing}
-use Rattle.http_text.specs.Forms.{request_form}
+use Rattle.http_text.specs.Forms.{IsRequestMessage}
 use Rattle.http_text.specs.Requests.{TakesMessage}
 use Rattle.http_text.specs.Responses.{TakesResponse}
 use Rattle.http_text.specs.Message.{Message}
@@ -22,7 +22,7 @@ use Rattle.connector_core.specs.Asking.{asking}
 use Rattle.connector_core.specs.Changing.{history_after, judged, taking}
 use Rattle.connector_core.specs.Maps.{BookMap, book_of}
 use Rattle.connector_core.specs.State.{AreOf, Leaves, State as Connector}
-use Rattle.connector_core.specs.Book.{Book}
+use Rattle.connector_core.specs.Book.{Book, doubted}
 use Rattle.connector_core.specs.Learning.{after_learning, learn}
 use Rattle.connector_core.specs.declared.learning.Learnt.{Learnt}
 use Rattle.connector_core.specs.declared.learning.LearnFault.{LearnFault}
@@ -32,9 +32,9 @@ use Rattle.std.specs.FinMap.{keys}
 use Rattle.connector_core.specs.declared.asking.Ask.TheVariants.{Send}
 use Rattle.provisioning.specs.Exchanges.{Becomes, Came, IsAsked, answered, lost, answer_in as answer_of}
 use Rattle.world_model.specs.Safe.{IsPrefixOf}
-use Rattle.promise.specs.Traces.{CameFrom, IsAtFront, LeavesBook as LeavesTaught, State, Step, Step.offers, Step.asks, Step.serves, Step.hears, Step.reopens, Trace, Trace.here, Trace.next, Written}
+use Rattle.promise.specs.Traces.{CameFrom, IsAtFront, LeavesBook as LeavesTaught, State, Step, Step.offers, Step.asks, Step.serves, Step.hears, Step.doubts, Step.reopens, Trace, Trace.here, Trace.next, Written}
 use Rattle.promise.proofs.Bytes.{none_taken, taken_request, taken_response}
-use Rattle.promise.specs.Calls.{BringsReply, ExchangesAreSteps, OffersAreSteps, ReopeningAfterChanges, ReopeningAfterExchanges, ReopeningIsAStep, ServingIsAStep}
+use Rattle.promise.specs.Calls.{BringsReply, DoubtsAreSteps, ExchangesAreSteps, OffersAreSteps, ReopeningAfterChanges, ReopeningAfterExchanges, ReopeningIsAStep, ServingIsAStep}
 
 -- ---- what was written, if it is known what the writer held
 
@@ -65,7 +65,7 @@ reply_grows held before after None (Err fault) served b sends = silent_grows hel
 
 -- ---- what was read
 
-pub brought : (came text : List ℕ) (known left : Option (List ℕ)) (read : Result Message ReadFault) → known ≡ Some came → IsPrefixOf came text → IfOk read (TakesMessage known left) → IfOk read (IsAtFront request_form text)
+pub brought : (came text : List ℕ) (known left : Option (List ℕ)) (read : Result Message ReadFault) → known ≡ Some came → IsPrefixOf came text → IfOk read (TakesMessage known left) → IfOk read (IsAtFront IsRequestMessage text)
 brought came text known left (Ok m) is part takes = taken_request came text left m part (subst (λ (o : Option (List ℕ)). TakesMessage o left m) is takes)
 brought came text known left (Err fault) is part takes = tt
 
@@ -147,6 +147,10 @@ module _ {R J I O P Q : Type 0} (g : Registries R) (h : Journals J) (received : 
   offers_are_steps base old (row ∷ rows) all =
       let mid : State = record old { history = history_after old.history row (judged old.book row); book = taking old.book row } in
       and_then base old mid _ (next here (offers row all.0)) (offers_are_steps base mid rows all.1)
+
+  pub doubts_are_steps : DoubtsAreSteps g h received posted remaining contents
+  doubts_are_steps base old before after name was is names =
+      doubts name after.book (is ∙ ap (λ (b : BookMap). doubted (book_of b) name) was) (names ∙ ap keys was)
 
   -- ---- the connector is opened again
 

@@ -54,12 +54,12 @@ note_named name l n is =
 
 noted_there : (book : Book) (request : Request) (answer : Answer) (n : Note) → note book request answer ≡ Ok n → (known : Known) × (book n.name ≡ Some known)
 noted_there book request answer n is =
-    let said : RecordName → Known → Finding → Result Note LearnFault = λ name known f. lesson name known f >>= one_note name in
+    let said : RecordName → Known → Finding → Result Note LearnFault = λ name known f. lesson book name known f >>= one_note name in
     let known : RecordName → Known → Result Note LearnFault = λ name k. finding request answer >>= said name k in
     let one = bound (or_fault Unfit (subject request)) (λ name. or_fault NoSuchRecord (book name) >>= known name) n is in
     let two = bound (or_fault NoSuchRecord (book one.0)) (known one.0) n one.1 in
     let three = bound (finding request answer) (said one.0 two.0) n two.1 in
-    let four = bound (lesson one.0 two.0 three.0) (one_note one.0) n three.1 in
+    let four = bound (lesson book one.0 two.0 three.0) (one_note one.0) n three.1 in
     (two.0, subst (λ (name : RecordName). book name ≡ Some two.0) (note_named one.0 four.0 n four.1) (there NoSuchRecord (book one.0) two.0 two.2))
 
 -- ---- the entries with a note are those of the book with it

@@ -17,7 +17,7 @@ use Rattle.provider_core.specs.Stories.{Entry}
 use Rattle.provider_core.specs.declared.registry.Registry.{Ghosts as Registries}
 use Rattle.http_text.specs.declared.fault.ReadFault.{ReadFault}
 use Rattle.http_text.specs.declared.fault.ReadFault.TheVariants as reads
-use Rattle.http_text.specs.Forms.{request_form, response_form}
+use Rattle.http_text.specs.Forms.{IsRequestMessage, IsResponseMessage}
 use Rattle.http_text.specs.Judging.{is_head}
 use Rattle.http_text.specs.Message.{Message}
 use Rattle.scim_http.specs.Laws.{fixed_error}
@@ -33,6 +33,7 @@ use Rattle.connection.specs.Reactions.{reaction_to}
 use Rattle.connection.specs.Serving.{AnswersFault, AnswersMeaning, AnswersMessage, AnswersRequest, GivesUp, HasReply, IsAfter, IsUnharmed, LeavesRows, Replies, RepliesTo, reply_text}
 use Rattle.journal_core.specs.Entries.{EntryMap}
 use Rattle.journal_core.specs.declared.journals.Journal.{Ghosts as Journals}
+use Rattle.connector_core.specs.Book.{doubted}
 use Rattle.connector_core.specs.Asking.{asking}
 use Rattle.connector_core.specs.Changing.{history_after, judged, taking}
 use Rattle.connector_core.specs.History.{History}
@@ -48,7 +49,7 @@ use Rattle.world_model.proofs.Invariant.{always_inv}
 use Rattle.world_model.specs.Safe.{Has, IsPrefixOf}
 use Rattle.world_sim.specs.Fitting.{IsFormed}
 use Rattle.world_sim.proofs.Fitting.{messages_are_read}
-use Rattle.promise.specs.Traces.{CameFrom, Hears, IsAt, IsAtFront, LeavesBook, Serves, State, Step, Step.offers, Step.asks, Step.serves, Step.hears, Step.reopens, Step.rests, Trace, Trace.here, Trace.next, TracesAreRuns, Written, start}
+use Rattle.promise.specs.Traces.{CameFrom, Hears, IsAt, IsAtFront, LeavesBook, Serves, State, Step, Step.offers, Step.asks, Step.serves, Step.hears, Step.doubts, Step.reopens, Step.rests, Trace, Trace.here, Trace.next, TracesAreRuns, Written, start}
 use Rattle.promise.specs.Typed as typed
 use Rattle.promise.proofs.Bytes.{one_request_message, one_response_message, part_of_part, without_body}
 use Rattle.promise.proofs.Errors.{IsReadable, error_is_read, fixed_readable, refusal_readable}
@@ -150,7 +151,7 @@ module _ (base : List ℕ) (replies : List typed.Reply) (request : Request) (out
     reacted reads.TurnsExhausted is = silent is
 
 -- what a message means that is at the front of the text of a request
-pub meant : (m : Message) (text : List ℕ) (request : Request) → IsAtFront request_form text m → SpellsRequest text request → Asks m (Ok request)
+pub meant : (m : Message) (text : List ℕ) (request : Request) → IsAtFront IsRequestMessage text m → SpellsRequest text request → Asks m (Ok request)
 meant m text request front spells = subst (λ n. Asks n (Ok request)) (sym (one_request_message text m spells.message front spells.is)) spells.asks
 
 -- ---- the connector
@@ -166,18 +167,18 @@ pub record IsRead (base : List ℕ) (u : typed.State) : Type 0 where
 -- the only answer that is read of these bytes
 module _ (base : List ℕ) (is_base : IsBase base) (u : typed.State) (said : IsRead base u) where
   -- what a client reads at the front of a text is the answer of the text
-  read_at_front : (request : Request) (text : List ℕ) (m : Message) (read answer : Answer) → AnswersSo text request answer → IsAtFront response_form text m → answer_in request m ≡ Ok read → read ≡ answer
+  read_at_front : (request : Request) (text : List ℕ) (m : Message) (read answer : Answer) → AnswersSo text request answer → IsAtFront IsResponseMessage text m → answer_in request m ≡ Ok read → read ≡ answer
   read_at_front request text m read answer so front says =
-      let same = one_response_message text m so.message front so.is_message.0 in
+      let same = one_response_message text m so.message front so.is_message in
       let e : ◌≡◌ {A = Result Answer BodyFault} (Ok read) (Ok answer) = sym says ∙ ap (answer_in request) same ∙ so.says in
       cc
 
-  at_whole : (bytes text : List ℕ) (m : Message) → IsAtFront response_form bytes m → IsPrefixOf bytes text → IsAtFront response_form text m
+  at_whole : (bytes text : List ℕ) (m : Message) → IsAtFront IsResponseMessage bytes m → IsPrefixOf bytes text → IsAtFront IsResponseMessage text m
   at_whole bytes text m front part = (front.0, front.1, part_of_part front.0 bytes text front.2 part)
 
   -- an answer that is read of what was written was given, or is another error
   read_answer : (request : Request) (bytes : List ℕ) (m : Message) (read : Answer) → Has u.sent request → Says base u.replies request bytes
-      → IsAtFront response_form bytes m → answer_in request m ≡ Ok read
+      → IsAtFront IsResponseMessage bytes m → answer_in request m ≡ Ok read
       → Has u.replies (request, read) ⊎ ((error : ErrorRecord) × (read ≡ Error error) × typed.IsOtherError error)
   read_answer request bytes m read sent (by_answer answer has formed part) front says =
       inl (subst (λ (x : Answer). Has u.replies (request, x))
@@ -230,7 +231,7 @@ module _ (base : List ℕ) (is_base : IsBase base) (u : typed.State) (said : IsR
         after_serving = record old { rows = rows; written = old.written ++ (request, out) ∷ [] }
 
         -- the message that was read asks for the request
-        asks_for : (m : Message) → IsAtFront request_form (text_of base request) m → Asks m (Ok request)
+        asks_for : (m : Message) → IsAtFront IsRequestMessage (text_of base request) m → Asks m (Ok request)
         asks_for m front = meant m (text_of base request) request front (said.spelled request (subst (λ sent. Has sent request) spoken.sent s.sent) (spoken.formed request s.sent))
 
         answered_so : (m : Message) (reply : ReplyRecord) → g.is_faithful s.after → rows ≡ g.rows s.after
@@ -255,7 +256,7 @@ module _ (base : List ℕ) (is_base : IsBase base) (u : typed.State) (said : IsR
         abbrev Answers : Message → ReplyRecord → Type 0
         Answers m reply = AnswersMessage (g.is_faithful s.after) base (g.rows s.before) (g.rows s.after) m reply
 
-        answered_open : (m : Message) (reply : ReplyRecord) → IsAtFront request_form (text_of base request) m → g.is_faithful s.after → rows ≡ g.rows s.after → Answers m reply → IsPrefixOf out reply.text
+        answered_open : (m : Message) (reply : ReplyRecord) → IsAtFront IsRequestMessage (text_of base request) m → g.is_faithful s.after → rows ≡ g.rows s.after → Answers m reply → IsPrefixOf out reply.text
             → Goes base u after_serving
         answered_open m reply front faithful kept message part =
             let same : message.asked ≡ Ok request = one_meaning m message.asked (Ok request) message.asked_is (asks_for m front) in
@@ -264,14 +265,14 @@ module _ (base : List ℕ) (is_base : IsBase base) (u : typed.State) (said : IsR
 
         -- what the next opening finds of a store that a fault may have shut: the rows as they were, or as the request
         -- makes them
-        shut_rows : (m : Message) (reply : ReplyRecord) → IsAtFront request_form (text_of base request) m → LeavesRows g s.before s.after (Ok m) → g.is_faithful s.before → g.is_honest s.after → g.may_hold s.after rows
+        shut_rows : (m : Message) (reply : ReplyRecord) → IsAtFront IsRequestMessage (text_of base request) m → LeavesRows g s.before s.after (Ok m) → g.is_faithful s.before → g.is_honest s.after → g.may_hold s.after rows
             → reply ≡ fixed_reply → IsPrefixOf out reply.text → Goes base u after_serving
         shut_rows m reply front leaves was_faithful honest may fixed part = elim (leaves.stop honest rows may) [
           | inl held ↦ gave_up reply fixed (settled s.before rows was_faithful held) part
           | inr after_it ↦ shut_after m reply front after_it.1 fixed part
         ]
           where
-            shut_after : (m : Message) (reply : ReplyRecord) → IsAtFront request_form (text_of base request) m → IsAfter (g.rows s.before) (Ok m) rows → reply ≡ fixed_reply → IsPrefixOf out reply.text → Goes base u after_serving
+            shut_after : (m : Message) (reply : ReplyRecord) → IsAtFront IsRequestMessage (text_of base request) m → IsAfter (g.rows s.before) (Ok m) rows → reply ≡ fixed_reply → IsPrefixOf out reply.text → Goes base u after_serving
             shut_after m reply front after fixed part =
                 let e : ◌≡◌ {A = Result Request Refusal} (Ok after.0) (Ok request) = one_meaning m (Ok after.0) (Ok request) after.1 (asks_for m front) in
                 let same : after.0 ≡ request = cc in
@@ -279,7 +280,7 @@ module _ (base : List ℕ) (is_base : IsBase base) (u : typed.State) (said : IsR
                 carried_out request rows out s.sent (done ∙ ap (λ r. changed_rows r (outcome r request).change) s.was)
                 (says_more base u.replies ((request, (outcome u.rows request).answer) ∷ []) request out (fixed_sent base u.replies request out reply fixed part))
 
-        served_message : (m : Message) (reply : ReplyRecord) → IsAtFront request_form (text_of base request) m → LeavesRows g s.before s.after (Ok m)
+        served_message : (m : Message) (reply : ReplyRecord) → IsAtFront IsRequestMessage (text_of base request) m → LeavesRows g s.before s.after (Ok m)
             → (Answers m reply × IsUnharmed g s.before s.after) ⊎ GivesUp (g.is_faithful s.after) (g.rows s.before) (g.rows s.after) reply → IsPrefixOf out reply.text → Goes base u after_serving
         served_message m reply front leaves says part = elim (s.finds) [
           | inl kept ↦ elim says [
@@ -303,7 +304,7 @@ module _ (base : List ℕ) (is_base : IsBase base) (u : typed.State) (said : IsR
             ] in
             quiet request rows out (same ∙ s.was) (reacted base u.replies request out reply part fault replies.0)
 
-        by_read : (read : Result Message ReadFault) (reply : Option ReplyRecord) → IfOk read (IsAtFront request_form (text_of base request)) → Replies g base s.before s.after read reply → LeavesRows g s.before s.after read
+        by_read : (read : Result Message ReadFault) (reply : Option ReplyRecord) → IfOk read (IsAtFront IsRequestMessage (text_of base request)) → Replies g base s.before s.after read reply → LeavesRows g s.before s.after read
             → IsPrefixOf out (reply_text reply) → Goes base u after_serving
         by_read (Ok m) reply front replies leaves part = served_message m replies.0 front leaves replies.2 (sent_part_of base u.replies request out reply part replies.0 replies.1)
         by_read (Err fault) reply front replies leaves part = unread reply fault replies part
@@ -427,6 +428,11 @@ module _ (base : List ℕ) (is_base : IsBase base) (u : typed.State) (said : IsR
       }
       goes new (serves request rows out s) = served_step request rows out s
       goes new (hears request book x) = hearing_step request book x
+      goes new (doubts name book is names) = record {
+        later = record u { book = book };
+        trace = typed.next typed.here (typed.doubts name book (is ∙ ap (λ (b : BookMap). doubted (book_of b) name) spoken.book) (names ∙ ap keys spoken.book));
+        spoken = record { rows = spoken.rows; history = spoken.history; book = refl; sent = spoken.sent; formed = spoken.formed; written = spoken.written };
+      }
       goes new (reopens found book are is) = record {
         later = record u { book = book };
         trace = typed.next typed.here (typed.reopens found book (subst (λ (b : BookMap). AreOf found (book_of b) (keys b)) spoken.book are) is);

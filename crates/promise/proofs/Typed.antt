@@ -22,7 +22,7 @@ use Rattle.source_csv.specs.Records.{row_name}
 use Rattle.source_csv.specs.declared.rows.Row.{Row}
 use Rattle.journal_core.specs.Entries.{EntryMap}
 use Rattle.connector_core.specs.Asking.{asking}
-use Rattle.connector_core.specs.Book.{Book, forgotten, reopened, wanting}
+use Rattle.connector_core.specs.Book.{Book, doubted, reopened, undoubted, wanting}
 use Rattle.connector_core.specs.Changing.{accepted_map, book_after, history_after, judged, judging, names_of, names_with, taking}
 use Rattle.connector_core.specs.History.{History}
 use Rattle.connector_core.specs.Learning.{Finding, Taken, Stale, after_learning, finding, learn, lesson, noted, or_fault, refused_by, subject}
@@ -37,11 +37,11 @@ use Rattle.connector_core.specs.declared.learning.LearnFault.{LearnFault}
 use Rattle.connector_core.specs.declared.learning.LearnFault.TheVariants as faults
 use Rattle.connector_core.proofs.Keeping.{names-put}
 use Rattle.connector_core.proofs.LawProofs.{maps_accept}
-use Rattle.world_model.specs.World.{World, Message, Asked, Answered, Event, Changes, Sends, Delivers, Restarts_connector, arrives, changes, delivers, empty, happens, judged as world_judged, run, sends}
+use Rattle.world_model.specs.World.{World, Message, Asked, Answered, Event, Changes, Sends, Delivers, Doubts, Restarts_connector, arrives, changes, delivers, empty, happens, judged as world_judged, run, sends}
 use Rattle.world_model.specs.Safe.{Has}
 use Rattle.world_model.specs.Untroubled.{IsLawful}
 use Rattle.world_model.proofs.Headlines.{headline_holds}
-use Rattle.promise.specs.Typed.{IsOtherError, Mirrors, Reply, State, Step, Step.offers, Step.asks, Step.answers, Step.learns, Step.refused, Step.reopens, Step.relearns, Step.rests, Trace, Trace.here, Trace.next, TypedTracesAreRuns, start}
+use Rattle.promise.specs.Typed.{IsOtherError, Mirrors, Reply, State, Step, Step.offers, Step.asks, Step.answers, Step.learns, Step.refused, Step.doubts, Step.reopens, Step.relearns, Step.rests, Trace, Trace.here, Trace.next, TypedTracesAreRuns, start}
 use Rattle.promise.proofs.Lists.{all_both, each_more, has_last, has_more}
 
 -- ---- the names of the records
@@ -57,7 +57,7 @@ changed_names m history row (Ok verdicts.Older) same = same
 changed_names m history row (Err fault) same = same
 
 -- nothing was seen of what was just opened
-opened_known : (known : Option Known) → option_map opened (option_map entry_of known) ≡ option_map forgotten known
+opened_known : (known : Option Known) → option_map opened (option_map entry_of known) ≡ option_map undoubted known
 opened_known None = refl
 opened_known (Some known) = refl
 
@@ -173,11 +173,11 @@ module _ (old : State) (w : World) (m : Mirrors old w) where
 -- ---- other errors teach nothing
 
 nothing_said : (book : Book) (request : Request) (answer : Answer) (fault : LearnFault) → finding request answer ≡ Err fault → (o : Option RecordName)
-    → after_learning book (or_fault faults.Unfit o >>= (λ name. or_fault faults.NoSuchRecord (book name) >>= (λ known. finding request answer >>= (λ said. lesson name known said >>= (λ l. Ok (noted book name l)))))) ≡ book
+    → after_learning book (or_fault faults.Unfit o >>= (λ name. or_fault faults.NoSuchRecord (book name) >>= (λ known. finding request answer >>= (λ said. lesson book name known said >>= (λ l. Ok (noted book name l)))))) ≡ book
 nothing_said book request answer fault is None = refl
 nothing_said book request answer fault is (Some name) = go (book name)
   where
-    go : (o : Option Known) → after_learning book (or_fault faults.NoSuchRecord o >>= (λ known. finding request answer >>= (λ said. lesson name known said >>= (λ l. Ok (noted book name l))))) ≡ book
+    go : (o : Option Known) → after_learning book (or_fault faults.NoSuchRecord o >>= (λ known. finding request answer >>= (λ said. lesson book name known said >>= (λ l. Ok (noted book name l))))) ≡ book
     go None = refl
     go (Some known) = rw is refl
 
@@ -208,6 +208,8 @@ leads old new w (answers request has) m = arrived old w m (Asked request) _ (m.s
 leads old new w (learns request answer book has is names) m = arrived old w m (Answered request answer) _ (m.replies (request, answer) has) (learnt old w m request answer book is names)
 leads old new w (refused request error book is_other is names) m =
     record { events = []; lawful = tt; mirrors = rebooked old w m w book (is ∙ other_error (book_of old.book) request error is_other ∙ m.book) names refl refl refl }
+leads old new w (doubts name book is names) m =
+    one old w m (Doubts name) _ tt (rebooked old w m (happens w (Doubts name)) book (is ∙ ap (λ b. doubted b name) m.book) names refl refl refl)
 leads old new w (reopens found book are is) m = one old w m Restarts_connector _ tt (reopened_by old w m w found book (book_of old.book) m.book are is refl refl refl)
 leads old new w (relearns request answer found book has are is) m = relearnt old w m request answer found book has are is
 leads old new w rests m = stays old w m

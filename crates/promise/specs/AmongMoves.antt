@@ -4,7 +4,7 @@ use Rattle.std.specs.List.{AllByRecursion}
 use Rattle.scim_resource.specs.Rows.{StoredRecord}
 use Rattle.scim_message.specs.declared.messages.Request.{Request}
 use Rattle.provider_core.specs.declared.registry.Registry.{Ghosts as Registries}
-use Rattle.http_text.specs.Forms.{request_form}
+use Rattle.http_text.specs.Forms.{IsRequestMessage}
 use Rattle.http_text.specs.Message.{Message}
 use Rattle.connection.specs.declared.serving.ConnectionFault.{ConnectionFault}
 use Rattle.connection.specs.Listening.{Takes}
@@ -61,7 +61,7 @@ module _ {J I O P Q : Type 0} (h : Journals J) (received : I → Option (List �
 abbrev pub BringsTheirs : {P : Type 0} → (P → Option (List ℕ)) → Names → (reader : P) → Type 0
 BringsTheirs remaining ours reader =
     (came : List ℕ) × (remaining reader ≡ Some came)
-    × ((m : Message) → IsAtFront request_form came m → AsksAlone ours m)
+    × ((m : Message) → IsAtFront IsRequestMessage came m → AsksAlone ours m)
 
 module _ {I O P Q : Type 0} (received : I → Option (List ℕ)) (remaining : P → Option (List ℕ)) (base : List ℕ)
     (is_theirs : P → Type 0) where

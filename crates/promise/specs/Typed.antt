@@ -16,6 +16,7 @@ use Rattle.source_csv.specs.Records.{IsRow}
 use Rattle.source_csv.specs.declared.rows.Row.{Row}
 use Rattle.journal_core.specs.Entries.{EntryMap}
 use Rattle.connector_core.specs.Asking.{asking}
+use Rattle.connector_core.specs.Book.{doubted}
 use Rattle.connector_core.specs.Changing.{history_after, judged, taking}
 use Rattle.connector_core.specs.History.{History}
 use Rattle.connector_core.specs.Learning.{after_learning, learn}
@@ -67,6 +68,9 @@ pub data Step (old : State) : State → Type 0 where
   -- the connector learns from another error
   refused : (request : Request) (error : ErrorRecord) (book : BookMap) → IsOtherError error
       → book_of book ≡ after_learning (book_of old.book) (learn (book_of old.book) request (Error error))
+      → keys book ≡ keys old.book → Step old (record old { book = book })
+  -- the connector doubts a record
+  doubts : (name : RecordName) (book : BookMap) → book_of book ≡ doubted (book_of old.book) name
       → keys book ≡ keys old.book → Step old (record old { book = book })
   -- the connector is opened again, from the entries that its journal has of its book
   reopens : (found : EntryMap) (book : BookMap) → AreOf found (book_of old.book) (keys old.book)

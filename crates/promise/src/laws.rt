@@ -5,7 +5,7 @@ ghost use Rattle.promise.specs.AmongMoves.{MovesAreTracesAmong, PushAndServeAreA
 ghost use Rattle.promise.specs.AmongPaces.{PushAtPaceAndServeAreATraceAmong, PushesAtPacesConnect};
 ghost use Rattle.promise.specs.AmongSeveral.{TracesOfSeveralAreRuns};
 ghost use Rattle.promise.specs.AmongTyped.{TypedTracesAreRunsAmong};
-ghost use Rattle.promise.specs.Calls.{ExchangesAreSteps, OffersAreSteps, ReopeningAfterChanges, ReopeningAfterExchanges, ReopeningIsAStep, ServingIsAStep};
+ghost use Rattle.promise.specs.Calls.{DoubtsAreSteps, ExchangesAreSteps, OffersAreSteps, ReopeningAfterChanges, ReopeningAfterExchanges, ReopeningIsAStep, ServingIsAStep};
 ghost use Rattle.promise.specs.Moves.{ListenersAreMoves, MovesAreTraces, PushAndServeAreATrace, PushesAreMoves};
 ghost use Rattle.promise.specs.Traces.{TracesAreRuns};
 ghost use Rattle.promise.specs.Typed.{TypedTracesAreRuns};
@@ -46,14 +46,16 @@ pub fn traces_are_runs_among<R: Registry, J: Journal, I: Read, O: Write, P: Read
 
 /// The calls of the programs are steps of a trace: each connection that was served, if what came on it was a
 /// first part of the text of a request that was ever sent, or all of it; each exchange, if what came on its
-/// stream was a first part of what was written for its request, or all of it; each row that was offered; and
-/// each opening of the connector, also after a fault.
+/// stream was a first part of what was written for its request, or all of it; each row that was offered; each
+/// record that was doubted; and each opening of the connector, also after a fault.
 pub fn calls_are_steps<R: Registry, J: Journal, I: Read, O: Write, P: Read, Q: Write>()
     ensures serving { ServingIsAStep R.Registry J.Journal I.remaining O.contents P.remaining
         Q.contents }
     ensures exchanges { ExchangesAreSteps R.Registry J.Journal I.remaining O.contents P.remaining
         Q.contents }
     ensures offers { OffersAreSteps R.Registry J.Journal I.remaining O.contents P.remaining
+        Q.contents }
+    ensures doubts { DoubtsAreSteps R.Registry J.Journal I.remaining O.contents P.remaining
         Q.contents }
     ensures reopening { ReopeningIsAStep R.Registry J.Journal I.remaining O.contents P.remaining
         Q.contents }

@@ -10,6 +10,9 @@ returns-clause-exchanges g c = laws.exchanges_are_steps g.R.Registry g.J.Journal
 pub returns-clause-offers : goal.returns-clause-offers
 returns-clause-offers g c = laws.offers_are_steps g.R.Registry g.J.Journal g.I.Read.remaining g.O.Write.contents g.P.Read.remaining g.Q.Write.contents
 
+pub returns-clause-doubts : goal.returns-clause-doubts
+returns-clause-doubts g c = laws.doubts_are_steps g.R.Registry g.J.Journal g.I.Read.remaining g.O.Write.contents g.P.Read.remaining g.Q.Write.contents
+
 pub returns-clause-reopening : goal.returns-clause-reopening
 returns-clause-reopening g c = laws.reopening_is_a_step g.R.Registry g.J.Journal g.I.Read.remaining g.O.Write.contents g.P.Read.remaining g.Q.Write.contents
 
