@@ -10,6 +10,8 @@ use std::io::Read;
 /// A reader of which some bytes were read before: these come first.
 #[derive(Drop)]
 pub struct AheadReader<R: Drop> {
+    /// The number of the connection that is read.
+    pub(crate) number: usize,
     ahead: Vec<u8>,
     /// How many of these bytes were given.
     given: usize,
@@ -17,13 +19,15 @@ pub struct AheadReader<R: Drop> {
 }
 
 impl<R: Read + Drop> AheadReader<R> {
-    pub(crate) fn new(ahead: Vec<u8>, reader: R) -> Self
+    pub(crate) fn new(number: usize, ahead: Vec<u8>, reader: R) -> Self
+        ensures number { result.number ≡ number }
         ensures bytes { after_ahead result.ahead.items result.given (R.remaining result.reader)
             ≡ prepend_known ahead.items (R.remaining reader) }
         ensures ahead { result.ahead ≡ ahead }
         ensures given { result.given ≡ 0 }
     {
         AheadReader {
+            number,
             ahead,
             given: 0,
             reader,

@@ -1,8 +1,5 @@
 //! Connections whose requests aren't whole yet.
-ghost use Rattle.std.specs.Prelude.{◌≡◌, ◌≤◌, [], IfOk};
-ghost use Rattle.std.specs.Io.KnownBytes.{Keeps, prepend_known};
-ghost use Rattle.connection.specs.Holding.{HasCome, IsLookedAtBy, IsSame, Looks, is_time};
-ghost use Rattle.connection.specs.Memory.{size_of};
+ghost use Rattle.std.specs.Prelude.{◌≡◌};
 
 use crate::ahead::AheadReader;
 use crate::late::LateWriter;
@@ -22,7 +19,7 @@ use timed_streams::{Deadline, PromptStream, SharedStream};
 const MOST_BYTES: usize = HEAD_LIMIT + BODY_LIMIT as usize;
 
 /// The most bytes that the first read of a connection takes, and a later one.
-const SHORT_READ: usize = 2_048;
+pub(crate) const SHORT_READ: usize = 2_048;
 
 const LONG_READ: usize = 16_384;
 
@@ -48,6 +45,7 @@ pub(crate) struct Held<S: Drop> {
     received: Received,
     /// Whether no request comes any more: its time is over, or its stream failed, or ended before anything came.
     is_gone: bool,
+    ghost own: { received.number ≡ number },
 }
 
 /// What a look at a connection found.
@@ -62,6 +60,11 @@ pub(crate) enum Arrival {
 }
 
 impl<S: Read + AsRawFd + Drop> Held<S> {
+    ghost use Rattle.std.specs.Prelude.{◌≤◌, []};
+    ghost use Rattle.std.specs.Io.KnownBytes.{Keeps, prepend_known};
+    ghost use Rattle.connection.specs.Holding.{HasCome, IsLookedAtBy, IsSame, Looks, is_time};
+    ghost use Rattle.connection.specs.Memory.{size_of};
+
     /// A connection that was accepted now.
     pub(crate) fn new(
         alloc: Global,
@@ -86,7 +89,7 @@ impl<S: Read + AsRawFd + Drop> Held<S> {
             accepted: now,
             next: now,
             is_known: false,
-            received: Received::new(alloc),
+            received: Received::new(alloc, number),
             is_gone: false,
         }
     }
@@ -282,13 +285,16 @@ pub(crate) type Asked<'a, S, C> = PromptStream<'a, AheadReader<SharedStream<S>>,
 pub(crate) type Answering<'a, S, C> = LateWriter<PromptStream<'a, SharedStream<S>, C>>;
 
 impl<S: Read + Write + OpenStream + AsRawFd + Drop> Held<S> {
+    ghost use Rattle.std.specs.Prelude.{[], IfOk};
+
     /// Its reader, which begins with what was received, and its writer.
     pub(crate) fn open<'a, C: Clock>(
         self,
         alloc: Global,
         clock: &'a C,
     ) -> io::Result<(Asked<'a, S, C>, Answering<'a, S, C>)>
-        ensures { IfOk result (λ handles. (handles.0.stream.ahead ≡ self.received.bytes)
+        ensures { IfOk result (λ handles. (handles.0.stream.number ≡ self.number)
+            × (handles.0.stream.ahead ≡ self.received.bytes)
             × (handles.0.stream.given ≡ 0) × (handles.0.deadline ≡ self.deadline)
             × (handles.1.number ≡ self.number) × (handles.1.end ≡ self.deadline.end)
             × (handles.1.unsent.items ≡ [])) }
@@ -306,7 +312,8 @@ impl<S: Read + Write + OpenStream + AsRawFd + Drop> Held<S> {
         } = self;
         let descriptor = stream.as_raw_fd();
         let stream = SharedStream::new(alloc, stream)?;
-        let reader = AheadReader::new(received.into_bytes(), stream.try_clone()?);
+        let came_on = received.number();
+        let reader = AheadReader::new(came_on, received.into_bytes(), stream.try_clone()?);
         let writer = PromptStream::new(stream, clock, deadline);
         Ok((
             PromptStream::new(reader, clock, deadline),

@@ -11,7 +11,7 @@ pub(crate) const MOST_HELD: usize = 4_096;
 /// The most bytes of memory that the requests of all of them take.
 pub(crate) const MOST_MEMORY: usize = 16_777_216;
 
-/// The most bytes of memory that they take in addition in one turn.
+/// The most bytes of memory that they take in addition before the largest make room again.
 pub(crate) const MOST_GROWTH: usize = 2_097_152;
 
 /// How many descriptors are left to others, as files that are opened again.
@@ -27,7 +27,7 @@ pub(crate) const MOST_SPARED: u32 = 3;
 pub(crate) const MOST_LOOKS: usize = 4;
 
 /// The most connections that are accepted in a row, if their requests aren't whole.
-pub(crate) const MOST_IN_A_ROW: u32 = 16;
+pub(crate) const MOST_IN_A_ROW: u32 = 64;
 
 /// The most connections whose whole requests wait because all rows are read for them.
 pub(crate) const MOST_SEARCHES: usize = 512;
@@ -86,6 +86,11 @@ pub(crate) fn least_share() -> Duration {
 /// How long one call goes on with connections that were served, before others have their turn.
 pub(crate) fn longest_work() -> Duration {
     Duration::from_micros(250)
+}
+
+/// How long those that wait are looked at, before others have their turn.
+pub(crate) fn longest_looks() -> Duration {
+    Duration::from_micros(100)
 }
 
 /// How long it is waited before another connection is asked for, if the system gave none for want of something.

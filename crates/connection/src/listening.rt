@@ -1,5 +1,5 @@
 //! What accepts connections.
-ghost use Rattle.std.specs.Prelude.{◌≡◌, List, Option, None};
+ghost use Rattle.std.specs.Prelude.{◌≡◌, List, Option, None, IfOk};
 ghost use Rattle.connection.specs.Listening.{Accepts};
 
 use provider_core::Meanwhile;
@@ -16,9 +16,13 @@ pub trait Listen: Meanwhile {
     /// The connections that will be accepted from now on, if they are known.
     ghost waiting: { Self → Option (List (Self.Reader × Self.Writer)) } = { λ _. None };
 
+    /// Whether a reader and a writer are those of one connection.
+    ghost are_one: { Self.Reader → Self.Writer → Type 0 } = { λ _ _. Unit {0} };
+
     /// Accepts the next connection that can be served.
     fn accept(&mut self) -> io::Result<(Self::Reader, Self::Writer)>
-        ensures { Accepts (waiting self.old) (waiting self.new) result };
+        ensures next { Accepts (waiting self.old) (waiting self.new) result }
+        ensures one { IfOk result (λ handles. are_one handles.0 handles.1) };
 
     /// Ends a connection that was served. Its peer gets the rest of the answer, and may still send for a
     /// while.

@@ -8,6 +8,7 @@ ghost use Rattle.connection.specs.Arriving.{AreUndecided, HasExtent, HasLength, 
 ghost use Rattle.connection.specs.Lines.{lines_after};
 ghost use Rattle.connection.specs.declared.lines.HeadLines.TheVariants.{Blank};
 
+use crate::held::SHORT_READ;
 use crate::lines::{HeadLines, lines_after};
 use crate::readiness::{Extent, extent_of, is_part};
 use http_text::HEAD_LIMIT;
@@ -19,6 +20,8 @@ const PART_OF_HEAD: usize = 8;
 /// The bytes that have come of a request, and what was found of them.
 #[derive(Drop)]
 pub(crate) struct Received {
+    /// The number of the connection on which they came.
+    number: usize,
     pub(crate) bytes: Vec<u8>,
     /// How many of them were read last, and don't decide what is answered.
     read: usize,
@@ -32,11 +35,13 @@ pub(crate) struct Received {
 }
 
 impl Received {
-    /// Nothing has come yet.
-    pub(crate) fn new(alloc: Global) -> Self
-        ensures { result.bytes.items ≡ [] }
+    /// Nothing has come yet on the connection with this number.
+    pub(crate) fn new(alloc: Global, number: usize) -> Self
+        ensures number { result.number ≡ number }
+        ensures bytes { result.bytes.items ≡ [] }
     {
         Received {
+            number,
             bytes: Vec::new(alloc),
             read: 0,
             whole: None,
@@ -44,8 +49,16 @@ impl Received {
         }
     }
 
+    /// The number of the connection on which the bytes came.
+    pub(crate) fn number(&self) -> usize
+        ensures { result ≡ self.now.number }
+    {
+        self.number
+    }
+
     /// Makes room for so many more bytes.
     pub(crate) fn reserve(&mut self, room: usize) -> Result<(), AllocError>
+        ensures number { self.new.number ≡ self.old.number }
         ensures bytes { self.new.bytes.items ≡ self.old.bytes.items }
         ensures room { OnOk result (vec_len self.new.bytes + room ≤ vec_capacity self.new.bytes) }
     {
@@ -54,6 +67,7 @@ impl Received {
 
     /// Adds bytes that have come.
     pub(crate) fn add(&mut self, bytes: &[u8]) -> Result<(), AllocError>
+        ensures number { self.new.number ≡ self.old.number }
         ensures bytes { self.new.bytes.items
             ≡ (if is_ok result then self.old.bytes.items ++ bytes.now else self.old.bytes.items) }
         ensures full { OnErr result
@@ -66,7 +80,8 @@ impl Received {
 
     /// Frees the memory that the bytes don't need.
     pub(crate) fn shrink(&mut self)
-        ensures { self.new.bytes.items ≡ self.old.bytes.items }
+        ensures number { self.new.number ≡ self.old.number }
+        ensures bytes { self.new.bytes.items ≡ self.old.bytes.items }
     {
         self.bytes.shrink_to_fit();
     }
@@ -75,6 +90,7 @@ impl Received {
         ensures { result ≡ self.bytes }
     {
         let Received {
+            number: _,
             bytes,
             read: _,
             whole: _,
@@ -96,12 +112,13 @@ impl Received {
     pub(crate) fn is_ready(&mut self, alloc: Global) -> bool
         ensures waits { OnFalse result ∥ Waits self.new.bytes.items ∥₁ }
         ensures bytes { self.new.bytes ≡ self.old.bytes }
+        ensures number { self.new.number ≡ self.old.number }
     {
         match self.whole {
             Some(whole) if self.bytes.len() < whole => false,
             Some(_) => true,
             None if self.is_put_off() => false,
-            None => self.is_decided(alloc),
+            None => self.is_settled(alloc),
         }
     }
 
@@ -115,10 +132,24 @@ impl Received {
         size < HEAD_LIMIT && more <= self.read / PART_OF_HEAD && !self.lines.have_ended()
     }
 
+    /// Whether the bytes decide what is answered, by reading them. A long request whose head is whole is read once, as if
+    /// its body had come.
+    fn is_settled(&mut self, alloc: Global) -> bool
+        ensures waits { OnFalse result ∥ Waits self.new.bytes.items ∥₁ }
+        ensures bytes { self.new.bytes ≡ self.old.bytes }
+        ensures number { self.new.number ≡ self.old.number }
+    {
+        match self.extent_if_long(alloc) {
+            Extent::Whole(whole) => self.is_whole(whole),
+            _ => self.is_decided(alloc),
+        }
+    }
+
     /// Whether the bytes decide what is answered, by reading them. It notes what it finds.
     fn is_decided(&mut self, alloc: Global) -> bool
         ensures waits { OnFalse result ∥ Waits self.new.bytes.items ∥₁ }
         ensures bytes { self.new.bytes ≡ self.old.bytes }
+        ensures number { self.new.number ≡ self.old.number }
     {
         if !is_part(alloc, &self.bytes) {
             return true;
@@ -128,7 +159,32 @@ impl Received {
         false
     }
 
-    /// How far a request is that isn't decided yet.
+    /// Whether a request of this length has come. It notes the length.
+    fn is_whole(&mut self, whole: usize) -> bool
+        requires { HasLength self.old.bytes.items whole }
+        ensures waits { OnFalse result ∥ Waits self.new.bytes.items ∥₁ }
+        ensures bytes { self.new.bytes ≡ self.old.bytes }
+        ensures number { self.new.number ≡ self.old.number }
+    {
+        self.whole = Some(whole);
+        if self.bytes.len() < whole {
+            return false;
+        }
+        true
+    }
+
+    /// How far a request is that didn't fit into the first read. Of another nothing is said.
+    fn extent_if_long(&self, alloc: Global) -> Extent
+        ensures { HasExtent self.now.bytes.items result }
+    {
+        if self.bytes.len() > SHORT_READ {
+            self.extent(alloc)
+        } else {
+            Extent::Unknown
+        }
+    }
+
+    /// How far a request is.
     fn extent(&self, alloc: Global) -> Extent
         ensures { HasExtent self.now.bytes.items result }
     {
@@ -143,7 +199,8 @@ impl Received {
     fn note(&mut self, extent: Extent)
         requires unfinished { IsUnfinished request_form self.old.bytes.items }
         requires extent { HasExtent self.old.bytes.items extent }
-        ensures { self.new.bytes ≡ self.old.bytes }
+        ensures bytes { self.new.bytes ≡ self.old.bytes }
+        ensures number { self.new.number ≡ self.old.number }
     {
         match extent {
             Extent::PartOfHead => self.read = self.bytes.len(),

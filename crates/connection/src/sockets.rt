@@ -1,17 +1,16 @@
 //! The connections of a listening socket.
-ghost use Rattle.std.specs.Prelude.{◌≡◌, ◌-◌, [], IfOk, IfSome, IsNone, false, refl, true, vec_len};
-ghost use Rattle.std.specs.Bool.{OnTrue};
-ghost use Rattle.std.specs.VecDeque.{deque_len};
-ghost use Rattle.connection.specs.Descriptors.{HasReserve, open_count};
+ghost use Rattle.std.specs.Prelude.{◌≡◌, ◌-◌, [], IfOk, IsNone, false, refl, true};
 ghost use Rattle.connection.specs.Reporting.{with_more};
 
-use crate::accepting::{Backlog, EMFILE, makes_room};
+mod turns;
+
+use crate::accepting::Backlog;
 use crate::descriptors::Descriptors;
 use crate::ending::Ending;
 use crate::endings::Endings;
 use crate::faults::FaultCount;
 use crate::held::{Answering, Asked, Held};
-use crate::limits::{MOST_IN_A_ROW, RESERVE, longest_turn};
+use crate::limits::longest_turn;
 use crate::listening::Listen;
 use crate::search_times::SearchTimes;
 use crate::searches::Searches;
@@ -22,10 +21,10 @@ use provider_core::Meanwhile;
 use std::alloc::Global;
 use std::io;
 use std::io::{Eprint, ErrorKind, Read, Write};
-use std::net::{IpAddr, Net, OpenListener, OpenStream};
+use std::net::{Net, OpenListener, OpenStream};
 use std::os::fd::AsRawFd;
 use std::time::{Clock, Duration, Instant};
-use timed_streams::{Deadline, SharedStream};
+use timed_streams::SharedStream;
 
 /// The connections of a listening socket. Each has this time in all, from when it is accepted. A connection
 /// is given out when its request is whole, is refused by its form, or ends in its midst. One on which none comes is
@@ -48,8 +47,8 @@ where
     descriptors: Descriptors,
     faults: FaultCount,
     waiting: Waiting<L::Stream>,
-    /// Whether new connections are looked at before those that wait.
-    is_new_first: bool,
+    /// Whether a new connection was taken out last, so that those that wait come first.
+    is_new_last: bool,
     /// Whether a connection failed that wasn't given out.
     has_failed: bool,
     searches: Searches<L::Stream>,
@@ -79,7 +78,7 @@ where
             descriptors: _,
             faults: _,
             waiting: _,
-            is_new_first: _,
+            is_new_last: _,
             has_failed: _,
             searches: _,
             search_times: _,
@@ -121,7 +120,7 @@ where
             descriptors: Descriptors::new(),
             faults: FaultCount::new(),
             waiting: Waiting::new(alloc),
-            is_new_first: false,
+            is_new_last: false,
             has_failed: false,
             searches: Searches::new(alloc),
             search_times: SearchTimes::new(longest_search),
@@ -259,122 +258,6 @@ where
         }
     }
 
-    /// A turn of all: those that were served go on, new ones are accepted, and those that wait are looked at. It takes
-    /// out one that can be served: of the new ones first, or of the others first, by turns.
-    fn turn(&mut self, now: Instant) -> Option<Held<L::Stream>> {
-        self.endings.go_on(&self.watch, now);
-        self.free_memory();
-        self.is_new_first = !self.is_new_first;
-        if self.is_new_first
-            && let Some(held) = self.accept_some(1, now)
-        {
-            return Some(held);
-        }
-        if let Some(held) = self.waiting.take_ready(&self.watch, self.alloc, now) {
-            return Some(held);
-        }
-        if self.is_new_first {
-            return None;
-        }
-        self.accept_some(1, now)
-    }
-
-    /// Gives up the largest requests until the others leave room for what comes in a turn.
-    fn free_memory(&mut self) {
-        let others = self.searches.size();
-        for _ in 0..self.waiting.len() {
-            if !self.waiting.free_memory(others) {
-                return;
-            }
-            self.fail();
-        }
-    }
-
-    /// Accepts some new connections, and reads each by so many reads, up to the first that can be served. The others are
-    /// held. It goes on if one fails, or another one has to make room.
-    fn accept_some(&mut self, most_reads: u32, now: Instant) -> Option<Held<L::Stream>> {
-        for _ in 0..MOST_IN_A_ROW {
-            match self.next_held(now) {
-                Ok(Some(mut held)) => {
-                    let is_ready = held.is_ready(&self.watch, self.alloc, most_reads, now);
-                    if is_ready && !held.is_gone() {
-                        return Some(held);
-                    }
-                    if is_ready || !self.waiting.hold(held, now) {
-                        self.fail();
-                    }
-                }
-                Ok(None) => return None,
-                Err(_) => self.fail(),
-            }
-        }
-        None
-    }
-
-    /// Whether there may be a new connection, and there is a place for it.
-    fn may_accept(&self, now: Instant) -> bool {
-        self.backlog.is_due(now) && self.waiting.has_room(now)
-    }
-
-    /// The next new connection, unread, if there is one, and a place and a descriptor for it.
-    fn next_held(&mut self, now: Instant) -> io::Result<Option<Held<L::Stream>>>
-        ensures { IfOk result (λ found. IfSome found (λ _. HasReserve RESERVE
-            (open_count (deque_len self.old.waiting.connections)
-            (deque_len self.old.searches.waiting) (vec_len self.old.endings.endings))
-            self.old.descriptors self.new.descriptors)) }
-    {
-        if !self.may_accept(now) {
-            return Ok(None);
-        }
-        if !self.has_descriptors() {
-            return self.unaccepted(io::Error::from_raw_os_error(EMFILE), now);
-        }
-        match self.backlog.next() {
-            Ok(Some((stream, peer))) => self.held(stream, peer).map(Some),
-            Ok(None) => Ok(None),
-            Err(error) => self.unaccepted(error, now),
-        }
-    }
-
-    /// Whether the system has a descriptor for another connection, and some that it leaves to others.
-    fn has_descriptors(&mut self) -> bool
-        ensures { OnTrue result (HasReserve RESERVE
-            (open_count (deque_len self.old.waiting.connections)
-            (deque_len self.old.searches.waiting) (vec_len self.old.endings.endings))
-            self.old.descriptors self.new.descriptors) }
-    {
-        let open = self
-            .waiting
-            .len()
-            .saturating_add(self.searches.len())
-            .saturating_add(self.endings.len());
-        self.descriptors.has_another(&self.watch, self.alloc, open)
-    }
-
-    /// The system gives no connection. If it has no descriptor or no memory left, the oldest connection makes room. If
-    /// none can, or another error came, it is tried again after a pause; the fault is reported once a second at most.
-    fn unaccepted(&mut self, error: io::Error, now: Instant) -> io::Result<Option<Held<L::Stream>>>
-        ensures { IfOk result (λ found. IsNone found) }
-    {
-        let has_left = makes_room(error.raw_os_error()) && self.waiting.give_up_oldest(now);
-        if has_left || self.backlog.put_off(now) {
-            return Err(error);
-        }
-        Ok(None)
-    }
-
-    /// A new connection, of which nothing was read yet.
-    fn held(&mut self, stream: L::Stream, peer: IpAddr) -> io::Result<Held<L::Stream>>
-        ensures { self.new.descriptors ≡ self.old.descriptors }
-    {
-        stream.set_nonblocking(true)?;
-        let number = self.accepted;
-        self.accepted = number.wrapping_add(1);
-        let deadline = Deadline::after(self.clock, self.limit)?;
-        let now = Instant::now(self.clock)?;
-        Ok(Held::new(self.alloc, number, peer, stream, deadline, now))
-    }
-
     /// Goes on with others during a search: their answers are sent, and new ones are accepted, and held unread.
     fn attend(&mut self) -> io::Result<()> {
         let now = self.gather(Some(Duration::ZERO))?;
@@ -466,6 +349,8 @@ where
     type Reader = Asked<'a, L::Stream, C>;
 
     type Writer = Answering<'a, L::Stream, C>;
+
+    ghost are_one = { λ reader writer. reader.stream.number ≡ writer.number };
 
     fn accept(&mut self) -> io::Result<(Self::Reader, Self::Writer)> {
         if self.search_times.end(Instant::now(self.clock)?) {

@@ -1,6 +1,6 @@
 //! All connections whose requests aren't whole yet.
 ghost use Rattle.std.specs.Prelude.{◌≡◌};
-ghost use Rattle.connection.specs.Memory.{memory_of};
+ghost use Rattle.connection.specs.Memory.{AreWithin, memory_of};
 
 use crate::held::{Held, MOST_READS};
 use crate::limits::{MOST_GROWTH, MOST_HELD, MOST_LOOKS, MOST_MEMORY, granted};
@@ -11,7 +11,8 @@ use std::io::Read;
 use std::os::fd::AsRawFd;
 use std::time::Instant;
 
-/// How much memory the requests of all may take before a turn, so that they don't exceed the bound in it.
+/// How much memory the requests of all may take before a call that reads more of them, so that they don't exceed the
+/// bound until the next one.
 const MOST_BEFORE: usize = MOST_MEMORY - MOST_GROWTH;
 
 /// Connections whose requests aren't whole yet, in the order in which they were accepted. They are passed in rounds.
@@ -21,11 +22,14 @@ pub(crate) struct Waiting<S: Drop> {
     connections: VecDeque<Held<S>>,
     /// How many bytes of memory their requests take.
     size: u128,
+    /// None of these takes more.
+    most: usize,
     /// The place of the connection that is passed next.
     next: usize,
     /// The place where the round ends: those behind it joined since it began.
     end: usize,
     ghost counted: { size ≡ memory_of connections.items },
+    ghost bounded: { AreWithin most connections.items },
 }
 
 impl<S: Read + AsRawFd + Drop> Waiting<S> {
@@ -42,6 +46,7 @@ impl<S: Read + AsRawFd + Drop> Waiting<S> {
         Waiting {
             connections: VecDeque::new(alloc),
             size: 0,
+            most: 0,
             next: 0,
             end: 0,
         }
@@ -141,10 +146,11 @@ impl<S: Read + AsRawFd + Drop> Waiting<S> {
             × (deque_capacity self.old.connections ≤ deque_len self.old.connections)) }
         ensures bound { deque_len self.new.connections ≤ deque_len self.old.connections + 1 }
     {
-        let size = held.size() as u128;
+        let size = held.size();
         let is_held = self.connections.push_back(held).is_ok();
         if is_held {
-            self.size += size;
+            self.size += size as u128;
+            self.most = self.most.max(size);
         }
         is_held
     }
@@ -271,7 +277,9 @@ impl<S: Read + AsRawFd + Drop> Waiting<S> {
         let held = &mut self.connections[place];
         let before = held.size() as u128;
         let is_ready = held.is_ready(watch, alloc, MOST_READS, now);
-        self.size = self.size - before + held.size() as u128;
+        let size = held.size();
+        self.size = self.size - before + size as u128;
+        self.most = self.most.max(size);
         is_ready
     }
 
@@ -289,24 +297,29 @@ impl<S: Read + AsRawFd + Drop> Waiting<S> {
             return false;
         }
         let place = self.largest();
+        self.most = self.size_at(place);
         self.leave(place);
         true
     }
 
-    /// Whether the requests of all of them take too much memory before a turn.
+    /// Whether the requests of all of them take too much memory before more of them is read.
     fn takes_too_much(&self, others: usize) -> bool
         ensures { IsTrue result ↔ (MOST_BEFORE < others + memory_of self.now.connections.items) }
     {
         self.size.saturating_add(others as u128) > MOST_BEFORE as u128
     }
 
-    /// The place of the largest request, and of several the oldest.
+    /// The place of the largest request, and of several the oldest. If there are many as large as any, the first is found
+    /// at once.
     fn largest(&self) -> usize
         requires { 0 < deque_len self.now.connections }
         ensures { IsLargest self.now.connections.items result }
     {
         let mut found = 0;
         for place in 1..self.connections.len() {
+            if self.size_at(found) >= self.most {
+                return found;
+            }
             if self.size_at(place) > self.size_at(found) {
                 found = place;
             }

@@ -1,5 +1,13 @@
+use Rattle.std.proofs.Common.{sym, subst}
+use Rattle.connection.specs.Memory.{AreWithin}
 use Rattle.connection.proofs.HoldingLemmas.{gave_up}
+use Rattle.connection.proofs.MemoryLemmas.{within_rest}
 use Rattle.connection.proofs.waiting.Waiting.give_up_oldest.Goals as goal
+
+pub invariant_of-self-clause-bounded : goal.invariant_of-self-clause-bounded
+invariant_of-self-clause-bounded g c =
+    subst (AreWithin c.args.self.now.most) (sym c.pop_front.ensures.rest)
+    (within_rest c.args.self.now.most c.args.self.now.connections.items c.args.self.now.bounded)
 
 pub returns-clause-given_up : goal.returns-clause-given_up
 returns-clause-given_up g c =

@@ -7,7 +7,7 @@ pub overflow_add-self : goal.overflow_add-self
 overflow_add-self g c =
     let fits = memory_fits c.args.self.now in
     let counted = c.args.self.now.counted in
-    omega (arith, fits, counted, c.size.type_inv)
+    omega (arith, fits, counted, c.size-size.type_inv)
 
 pub returns-clause-looks : goal.returns-clause-looks
 returns-clause-looks g c =
