@@ -4,7 +4,7 @@
 
 mod addresses;
 mod answering;
-mod comparing;
+mod comparison;
 mod endings;
 mod images;
 mod jobs;
@@ -27,7 +27,7 @@ mod stored;
 pub mod words;
 
 pub use answering::{answer, answer_one, answer_stored};
-pub use comparing::check;
+pub use comparison::check;
 pub use endings::{
     outcome_status, pushed_status, run_status, several_status, shown_status, simulated_status,
 };

@@ -1,7 +1,7 @@
 use Rattle.std.proofs.Common.{Ok, ap, sym, ◌∙◌}
 use Rattle.clap.specs.Matches.{found_of}
 use Rattle.commands.proofs.CheckLemmas.{checked}
-use Rattle.commands.proofs.comparing.check_named.Goals as goal
+use Rattle.commands.proofs.comparison.check_named.Goals as goal
 
 pub returns : goal.returns
 returns g c = checked _ _ _ _ _ (found_of c.args.words.now) _ c.in_ok-streams.streams c.in_ok-connector.connector.book
