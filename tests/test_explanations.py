@@ -46,7 +46,18 @@ SEARCHES = [
     (hits(user("bob", 1, "v1")), "C2", "no entity tag in meta.version"),
     # what isn't a response with a length
     (b"SSH-2.0-OpenSSH_9.2\r\n", "K1", r'not one HTTP response: "SSH-2.0-OpenSSH_9.2\x0D\x0A"'),
-    (head(200, Transfer_Encoding="chunked") + b"2\r\n{}\r\n", "K1", "200 with Transfer-Encoding: chunked"),
+    (
+        head(200, Transfer_Encoding="chunked") + b"2\r\n{}0\r\n",
+        "K1",
+        "200 with Transfer-Encoding: chunked, not alone, malformed, or above 8388608",
+    ),
+    (
+        head(200, Transfer_Encoding="gzip, chunked") + b"2\r\n{}\r\n",
+        "K1",
+        "200 with Transfer-Encoding: gzip, chunked, not alone, malformed, or above 8388608",
+    ),
+    (head(103) + head(200) + b"{}", "K1", "200 without Content-Length"),
+    (head(101), "K1", "101 without Content-Length"),
     (head(200) + b"{}", "K1", "200 without Content-Length"),
     (
         head(200, Content_Length=8_388_609) + b"{}",

@@ -19,6 +19,10 @@ PAGES = 100
 FIND_FIRST = f"GET /v2/Users/{resource_id(1)} HTTP/1.1\r\nHost: h\r\n\r\n".encode()
 FILTER = "%20or%20".join(f"userName%20co%20%22nobody-{part}%22" for part in range(PARTS))
 SEARCH = f"GET /v2/Users?filter={FILTER} HTTP/1.1\r\nHost: h\r\n\r\n".encode()
+# All groups, of which there are none, are a search too, and a quick one
+GROUPS = b"GET /v2/Groups HTTP/1.1\r\nHost: h\r\n\r\n"
+# The most bytes of memory that the requests of searches take that wait, and the most bytes of a head
+MOST_SEARCH_MEMORY, HEAD_LIMIT = 6_291_456, 16_384
 # The first users have long texts, so that a list of them is longer than what the system keeps for a client
 LONG, LISTED = "x" * 250, 200
 EMAILS = [{"value": LONG, "type": LONG}] * 10
@@ -29,6 +33,11 @@ def rows():
     for number in range(1, ROWS + 1):
         login = f"user-{number:06}"
         yield user_resource(number, login, content=user_text(login, emails=EMAILS if number <= LISTED else EMAILS[:1]))
+
+
+def padded(request, length):
+    """A request with a field that makes it so long."""
+    return request[:-2] + b"A: " + b"x" * (length - len(request) - len("A: \r\n")) + b"\r\n\r\n"
 
 
 class LongSearchTest(ProgramTest):
@@ -75,6 +84,37 @@ class LongSearchTest(ProgramTest):
             self.assert_found_nothing(search)
             self.assert_reports(provider.ends(), 0)
 
+    def test_the_most_memory_of_searches_that_wait(self):
+        """Their requests take it exactly, or a byte more: then one of them is closed."""
+        whole, least = MOST_SEARCH_MEMORY // HEAD_LIMIT - 1, 100
+        for last, lost in ((least, 0), (least + 1, 1)):
+            lengths = [HEAD_LIMIT] * whole + [HEAD_LIMIT - least, last]
+            with self.subTest(last=last), self.begun(len(lengths) - lost) as (provider, search):
+                with contextlib.ExitStack() as stack:
+                    # they come while it searches, and are read one after another when it has searched
+                    provider.freeze()
+                    streams = [stack.enter_context(provider.connect()) for _ in lengths]
+                    for stream, length in zip(streams, lengths):
+                        stream.sendall(padded(GROUPS, length))
+                    provider.resume()
+                    self.assert_found_nothing(search)
+                    answers = [read_all(stream) for stream in streams]
+                    self.assertEqual(answers.count(b""), lost)
+                    self.assertEqual(sum(it.startswith(b"HTTP/1.1 200") for it in answers), len(answers) - lost)
+                    self.assert_reports(provider.ends(), 3 if lost else 0, *["connection fault"] * lost)
+
+    @contextlib.contextmanager
+    def begun(self, connections, *more, **options):
+        """A provider, and the stream of a client whose search is under way."""
+        calls = Shim(build_shim(self.folder), self.folder, {})
+        options["env"] = options.get("env", {}) | calls.options["env"]
+        with self.searching(connections, *more, **options) as (provider, search):
+            before = calls.count_of("READ")
+            search.sendall(SEARCH)
+            wait_until(lambda: calls.count_of("READ") > before + PAGES, "the search")
+            self.assert_unanswered(search)
+            yield provider, search
+
     def test_a_search_is_stopped_after_its_time(self):
         """The test sets the clock ahead during the search, so it needs no store that is slow enough."""
         for seconds, ahead, is_stopped in ((None, 5, False), (None, 10, True), (1, 1, True), (20, 15, False)):
@@ -83,13 +123,8 @@ class LongSearchTest(ProgramTest):
 
     def assert_ends(self, options, ahead, is_stopped):
         """The answer to a search that finds nothing, or that is stopped, if the clock is set ahead meanwhile."""
-        shim = build_shim(self.folder)
-        clock, calls = Clock(shim, self.folder), Shim(shim, self.folder, {})
-        with self.searching(1, *options, env=clock.options["env"] | calls.options["env"]) as (provider, search):
-            before = calls.count_of("READ")
-            search.sendall(SEARCH)
-            wait_until(lambda: calls.count_of("READ") > before + PAGES, "the search")
-            self.assert_unanswered(search)
+        clock = Clock(build_shim(self.folder), self.folder)
+        with self.begun(1, *options, **clock.options) as (provider, search):
             clock.set_ahead(ahead)
             if is_stopped:
                 self.assertEqual(read_all(search), GIVEN_UP)

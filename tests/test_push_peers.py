@@ -44,8 +44,9 @@ UNUSABLE = {
     "K1": {
         "another protocol": b"SSH-2.0-OpenSSH_9.2\r\n",
         "no length": head(200, Connection="close") + b"{}",
-        "a chunked answer": head(200, Transfer_Encoding="chunked") + b"2\r\n{}\r\n0\r\n\r\n",
-        "an interim answer": head(100) + NO_HITS,
+        "chunks and a length": head(200, Transfer_Encoding="chunked", Content_Length=2) + b"2\r\n{}\r\n0\r\n\r\n",
+        "malformed chunks": head(200, Transfer_Encoding="chunked") + b"2\r\n{}\n0\r\n\r\n",
+        "nine interim answers": head(100) * 9 + NO_HITS,
         "another length": answer(200, b"{}", Content_Length=2) + b"more",
         "two lengths": head(200, Content_Length="2\r\nContent-Length: 3") + b"{}",
         "a body beyond the limit": head(200, Content_Length=8_388_609) + b"{}",

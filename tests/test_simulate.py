@@ -29,6 +29,11 @@ send user
 send user b ob
 send group  crew
 send users bob
+doubt
+doubt bob
+doubt user
+doubt user b ob
+doubt users bob
 deliver
 deliver\x20
 deliver  1

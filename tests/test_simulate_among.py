@@ -70,6 +70,40 @@ class SimulateAmongTest(ProgramTest):
         told = "schedule line 7: others write user bob, a record of the source"
         self.assert_prints(self.simulate(*lines), *reports, bob, status=1, errors=[told])
 
+    def doubting(self, *lines):
+        """The run of these lines after bob, who left, was created and confirmed, and somebody switched him on again."""
+        created = ["user bob,1,,,,,left", "send user bob", "deliver 1", "deliver 2", "send user bob", "deliver 3", "deliver 4"]
+        return self.simulate(*created, "other user bob,1,,,,,active", *lines)
+
+    def assert_doubted(self, run, *reports, version, active, status=0):
+        created = ["1 new", "2 find 1", "3 answer 2 200", "4 absent", "5 create 3", "6 answer 4 201", "7 confirmed 1"]
+        bob = f"user bob wanted=1 confirmed=1 held=1 version={version} active={active}"
+        told = "schedule line 8: others write user bob, a record of the source"
+        self.assert_prints(run, *created, "8 other 200", *reports, bob, status=status, errors=[told])
+
+    def test_what_somebody_changed_is_put_right_once_it_is_doubted(self):
+        run = self.doubting("send user bob", "doubt user bob", "send user bob", "deliver 5", "deliver 6", "send user bob",
+                            "deliver 7", "deliver 8", "send user bob", "doubt user eve")
+        reports = ["9 nothing", "10 doubted", "11 find 5", "12 answer 6 200", "13 seen", "14 replace 7", "15 answer 8 200"]
+        self.assert_doubted(run, *reports, "16 seen", "17 nothing", "18 C7", version=3, active="false")
+
+    def test_what_is_as_wanted_is_searched_for_and_left(self):
+        run = self.doubting("other user bob,1,,,,,left", "doubt user bob", "send user bob", "deliver 5", "deliver 6", "send user bob")
+        created = ["1 new", "2 find 1", "3 answer 2 200", "4 absent", "5 create 3", "6 answer 4 201", "7 confirmed 1", "8 other 200"]
+        reports = ["9 other 200", "10 doubted", "11 find 5", "12 answer 6 200", "13 seen", "14 nothing"]
+        told = [f"schedule line {line}: others write user bob, a record of the source" for line in (8, 9)]
+        bob = "user bob wanted=1 confirmed=1 held=1 version=3 active=false"
+        self.assert_prints(run, *created, *reports, bob, errors=told)
+
+    def test_an_answer_from_before_the_doubt_settles_it(self):
+        """So a push learns from its own exchanges alone."""
+        run = self.doubting("doubt user bob", "deliver 4", "send user bob")
+        self.assert_doubted(run, "9 doubted", "10 seen", "11 nothing", version=2, active="true")
+
+    def test_a_restart_forgets_the_doubt(self):
+        run = self.doubting("doubt user bob", "restart connector", "send user bob")
+        self.assert_doubted(run, "9 doubted", "10 restarted", "11 nothing", version=2, active="true")
+
     def test_each_line_about_a_record_of_the_source_is_told(self):
         lines = ["other user BOB,1,,,,,active", "other user dee,1,,,,,active", "other group bob,1,", "other user bob,1,,,,,left"]
         lines += ["user bob,1,,,,,active", "group crew,1,bob", "send user bob", "other group crew,1,bob"]

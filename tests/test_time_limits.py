@@ -5,16 +5,21 @@ One test has all the waits at once, so that the suite waits once. `ClockTest` se
 import concurrent.futures
 import contextlib
 import itertools
+import os
 import time
 
 from faults import Clock, build_shim
 from parallel_peers import Directory, ParallelPeer
 from peers import LATE, NO_HITS, TAKEN, Peer, answer, say_nothing, user
-from support import CREATE_BOB, TIME_LIMIT, ProgramTest, Provider, Running, Site, read_all, silent_provider
+from support import (
+    CREATE_BOB, TIME_LIMIT, ProgramTest, Provider, Running, Site, read_all, silent_provider, wait_until,
+)
 from test_slow_clients import FIND_BOB, LIST, is_closed, narrow_connection
 
 # Seconds that a slow machine may take between two steps of a test
 SLOWNESS = 5
+# Clients whose requests come while a run is stopped
+STOPPED = 50
 
 
 def trickle(stream, content):
@@ -142,6 +147,32 @@ class ClockTest(ProgramTest):
                     self.assertEqual(silent.recv(1), b"")
                 else:
                     self.assertFalse(is_closed(silent))
+
+    def test_requests_that_came_while_it_was_stopped(self):
+        """Whoever was accepted before has had its time, so what it asks for isn't done. Who connects meanwhile waits in
+        the system's queue, and is answered."""
+        with Provider(STOPPED + 1, **self.clock.options) as provider, contextlib.ExitStack() as stack:
+            handles = f"/proc/{provider.pid}/fd"
+            before = len(os.listdir(handles))
+            early = [stack.enter_context(provider.connect()) for _ in range(STOPPED)]
+            wait_until(lambda: len(os.listdir(handles)) == before + STOPPED, "all connections")
+            provider.freeze()
+            for stream in early:
+                stream.sendall(CREATE_BOB)
+            late = [stack.enter_context(provider.connect()) for _ in range(STOPPED)]
+            for stream in late:
+                stream.sendall(FIND_BOB)
+            self.clock.set_ahead(TIME_LIMIT + 1)
+            provider.resume()
+            for stream in late:
+                self.assertTrue(read_all(stream).startswith(b"HTTP/1.1 404"))
+            for stream in early:
+                # it is closed though it sent something, which is a reset
+                with self.assertRaises(ConnectionResetError):
+                    stream.recv(1)
+            self.assertTrue(provider.exchange(FIND_BOB).startswith(b"HTTP/1.1 404"))
+            run = provider.ends()
+            self.assertEqual((run.status, self.connection_faults(run)), (3, STOPPED))
 
     def test_an_exchange_has_no_longer_than_its_time(self):
         self.site.write_users("bob,1,,,,,active")

@@ -251,11 +251,10 @@ BROKEN = {
     ShowsNoTag: [
         "not met: strong version. The version v1 isn't an entity tag, as \"1\" is. Accounts can't be replaced: C2",
     ],
-    SendsChunks: [
-        "not met: Content-Length. An answer with status 200 has no single length. Records stay unconfirmed: K1",
-    ],
+    SendsChunks: [],
     SendsNoLength: [
-        "not met: Content-Length. An answer with status 412 has no single length. Records stay unconfirmed: K1",
+        "not met: Content-Length. An answer with status 412 has no single length, and doesn't come in chunks. Records "
+        "stay unconfirmed: K1",
     ],
     CreatesWith200: [
         "not met: 201 and 200. A creation is answered 200, and not 201 with the user. A new record is unconfirmed "
@@ -287,10 +286,10 @@ PUSHES = {
     ShowsNoVersion: [(JOINS, "unconfirmed C2")],
     ComparesStrongly: [(JOINS, "confirmed 1"), (LEAVES, "unconfirmed -")],
     ShowsNoTag: [(JOINS, "unconfirmed C2")],
-    SendsChunks: [(JOINS, "confirmed 1"), (LEAVES, "unconfirmed K1")],
+    SendsChunks: [(JOINS, "confirmed 1"), (LEAVES, "confirmed 2")],
     CreatesWith200: [(JOINS, "unconfirmed K3"), (JOINS, "confirmed 1")],
     CreatesWithoutShowing: [(JOINS, "unconfirmed K2"), (JOINS, "confirmed 1")],
-    ReplacesWith204: [(JOINS, "confirmed 1"), (LEAVES, "unconfirmed K1"), (LEAVES, "confirmed 2")],
+    ReplacesWith204: [(JOINS, "confirmed 1"), (LEAVES, "unconfirmed K2"), (LEAVES, "confirmed 2")],
     RefusesUsers: [(JOINS, "unconfirmed C4")],
 }
 
