@@ -9,3 +9,4 @@ pub mod Offered
 pub mod Verdicts
 pub mod Writing
 pub mod LawProofs
+pub mod Standing

@@ -1,14 +1,25 @@
 -- Laws of the connector.
-use Rattle.std.specs.Prelude.{◌≡◌, ◌≢◌, ℕ, List, Some}
-use Rattle.scim_key.specs.Revisions.{RevisionValue}
+use Rattle.std.specs.Prelude.{◌≡◌, ◌≢◌, ◌⊎◌, ℕ, ℤ, List, Option, Some, None, Ok, Err}
+use Rattle.std.specs.List.{slice_get}
+use Rattle.scim_key.specs.Revisions.{RevisionValue, no_revision}
+use Rattle.scim_key.specs.declared.records.Kind.{Kind}
 use Rattle.scim_key.specs.declared.records.RecordName.{RecordName}
-use Rattle.scim_message.specs.declared.messages.Request.{Request}
+use Rattle.scim_version.specs.declared.conditions.Condition.{Condition}
+use Rattle.scim_resource.specs.Contents.{content_name, content_revision}
+use Rattle.scim_resource.specs.Rows.{ShownRecord}
 use Rattle.scim_resource.specs.declared.contents.Content.{Content}
+use Rattle.scim_filter.specs.Expressions.{Expression}
+use Rattle.scim_message.specs.declared.messages.Request.{Request}
+use Rattle.scim_message.specs.declared.messages.Request.TheVariants.{Create, Retrieve, Search, Replace}
+use Rattle.scim_message.specs.declared.messages.Answer.{Answer}
+use Rattle.comparing.specs.Aspects.{is_active}
 use Rattle.journal_core.specs.Memory.{MemoryRecord}
 use Rattle.journal_core.specs.MemoryLaws.{memory_faults}
 use Rattle.connector_core.specs.Asking.{asking, replacement}
 use Rattle.connector_core.specs.Book.{Book}
 use Rattle.connector_core.specs.Changing.{CountsChange}
+use Rattle.connector_core.specs.Keeps.{Versions, filled, forgot, learn_at, resources_of}
+use Rattle.connector_core.specs.Learning.{Shows, finding}
 use Rattle.connector_core.specs.Maps.{BookMap, MapsAreBooks}
 use Rattle.connector_core.specs.Noting.{CountsLearn}
 use Rattle.connector_core.specs.State.{CountsOpen}
@@ -19,6 +30,7 @@ use Rattle.connector_core.specs.declared.knowledge.Known.{Known}
 use Rattle.connector_core.specs.declared.knowledge.Seen.TheVariants.{At}
 use Rattle.connector_core.specs.declared.learning.LearnFault.{LearnFault}
 use Rattle.connector_core.specs.declared.learning.LearnFault.TheVariants as learn
+use Rattle.connector_core.specs.declared.learning.LearnFault.TheVariants.{Unfit}
 use Rattle.connector_core.specs.declared.opening.ConnectorOpenFault.{ConnectorOpenFault}
 use Rattle.connector_core.specs.declared.opening.ConnectorOpenFault.TheVariants as opening
 
@@ -41,3 +53,34 @@ ReplacesWhatWasSeen =
     (book : Book) (name : RecordName) (known : Known) (id tag : List ℕ) (revision : RevisionValue)
     (request : Request) → book name ≡ Some known → known.seen ≡ At id tag revision
     → asking book name ≡ Some (Send request) → (content : Content) × (request ≡ replacement id tag content)
+
+-- the request writes this content
+abbrev pub IsWritten : Request → Content → Type 0
+IsWritten (Create content) other = content ≡ other
+IsWritten (Retrieve kind id if_match if_none_match) other = ⊥
+IsWritten (Search kind wanted start count) other = ⊥
+IsWritten (Replace id content if_match if_none_match) other = content ≡ other
+
+-- the content has another name, or it is active where the other isn't
+abbrev pub IsAnother : Content → Content → Type 0
+IsAnother content other = (content_name other ≢ content_name content) ⊎ (is_active other ≢ is_active content)
+
+-- what an answer stands for where no revision is shown
+pub record StandForWhatWasAsked : Type 0 where
+  -- a creation or a replacement: what the request carried
+  pub created : (content : Content) (answer : Answer) (s : ShownRecord)
+      → finding (Create content) (filled (Create content) answer) ≡ Ok (Shows s) → s.content ≡ content
+  pub replaced : (id : List ℕ) (content : Content) (if_match if_none_match : Condition) (answer : Answer) (s : ShownRecord)
+      → finding (Replace id content if_match if_none_match) (filled (Replace id content if_match if_none_match) answer)
+      ≡ Ok (Shows s) → s.content ≡ content
+  -- a search: a resource at no revision
+  pub searched : (kind : Kind) (wanted : Option Expression) (start : ℤ) (count : Option ℤ) (answer : Answer) (s : ShownRecord)
+      → finding (Search kind wanted start count) (filled (Search kind wanted start count) answer) ≡ Ok (Shows s)
+      → content_revision s.content ≡ Some no_revision
+  -- an answer that shows another name, or is active where the other isn't, is refused
+  pub refused : (book : Book) (request : Request) (content : Content) (answer : Answer) (place : ℕ) (s : ShownRecord)
+      → IsWritten request content → slice_get (resources_of answer) place ≡ Some s → IsAnother content s.content
+      → learn_at Versions book request answer ≡ Err Unfit
+  -- a provider that drops the source extension answers without revisions
+  pub forgotten : (answer : Answer) (place : ℕ) (s : ShownRecord)
+      → slice_get (resources_of (forgot answer)) place ≡ Some s → content_revision s.content ≡ None

@@ -6,6 +6,7 @@ pub mod Trees
 pub mod State
 pub mod Asking
 pub mod Learning
+pub mod Keeps
 pub mod Noting
 pub mod Changing
 pub mod Offering

@@ -1,6 +1,11 @@
 //! Laws of the connector.
 ghost use Rattle.connector_core.specs.Changing.{MapsAccept};
-ghost use Rattle.connector_core.specs.Laws.{AllMapsAreBooks, NoStoreFaults, ReplacesWhatWasSeen};
+ghost use Rattle.connector_core.specs.Laws.{
+  AllMapsAreBooks,
+  NoStoreFaults,
+  ReplacesWhatWasSeen,
+  StandForWhatWasAsked,
+};
 ghost use Rattle.connector_core.specs.Noting.{LearnsByNotes};
 
 /// Putting into the book's map is putting into the book, and an accepted row changes both in the same way.
@@ -22,4 +27,10 @@ pub fn memory_never_faults()
 /// A connector replaces a resource as it saw it, and doesn't search for it.
 pub fn what_was_seen_is_replaced()
     ensures { ReplacesWhatWasSeen }
+{}
+
+/// Where a provider shows no revision: an answer to a creation or a replacement stands for what was asked, and is
+/// refused if it shows another name, or another activity; a search stands for no revision.
+pub fn answers_stand_for_what_was_asked()
+    ensures { StandForWhatWasAsked }
 {}

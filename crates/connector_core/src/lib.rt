@@ -23,6 +23,9 @@ pub use asking::{Ask, AskFault, MOST_EXCHANGES, search_for};
 pub use changing::{ChangeFault, member_at};
 pub use connectors::Connector;
 pub use knowledge::{Known, Seen};
-pub use laws::{learns_by_notes, maps_are_books, memory_never_faults, what_was_seen_is_replaced};
+pub use laws::{
+    answers_stand_for_what_was_asked, learns_by_notes, maps_are_books, memory_never_faults,
+    what_was_seen_is_replaced,
+};
 pub use learning::{LearnFault, Learnt};
 pub use opening::ConnectorOpenFault;
