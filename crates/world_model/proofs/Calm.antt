@@ -26,7 +26,7 @@ use Rattle.world_model.specs.World.{World, Message, Asked, Answered, Event, Chan
 use Rattle.world_model.specs.Safe.{IsAt, Has}
 use Rattle.world_model.specs.Untroubled.{IsLawful}
 use Rattle.world_model.proofs.Accepting.{new_by_source}
-use Rattle.world_model.specs.Invariant.{Names, all_names, InvariantOf, Invariant}
+use Rattle.world_model.specs.Invariant.{Names, all_names, Follows, InvariantOf, Invariant}
 use Rattle.world_model.specs.Others.{Act, Ours, Theirs, acts, run_among, KeepsApart}
 use Rattle.world_model.specs.Room.{HasRoom, IsLawfulAct}
 use Rattle.world_model.proofs.Invariant.{event_inv, empty_inv, act_inv}
@@ -113,10 +113,14 @@ last_known None q is there = absurd (cc)
 last_known (Some known) q is there = (known, refl)
 
 -- each member of an accepted row is in the book
+pub member_known_by : (w : World) → Follows w.book w.history → MembersAreUsers w.history → (row : Row) → Has w.history row → (i : ℕ) (key : List ℕ) → IsAt (members_of row) i key
+    → (known : Known) × (w.book (user key) ≡ Some known)
+member_known_by w follows members row has i key at =
+    let users = all_at (AllAreUsers w.history) w.history has.0 row members has.1 in
+    last_known (w.book (user key)) (last_row w.history (user key)) (follows (user key)) (each_passes (is_user w.history) (members_of row) i key users at)
+
 pub member_known : {ours : Names} (w : World) → CalmAmong ours w → (row : Row) → Has w.history row → (i : ℕ) (key : List ℕ) → IsAt (members_of row) i key → (known : Known) × (w.book (user key) ≡ Some known)
-member_known w c row has i key at =
-    let users = all_at (AllAreUsers w.history) w.history has.0 row c.members has.1 in
-    last_known (w.book (user key)) (last_row w.history (user key)) (c.quiet.inv.follows (user key)) (each_passes (is_user w.history) (members_of row) i key users at)
+member_known w c row has i key at = member_known_by w c.quiet.inv.follows c.members row has i key at
 
 -- ---- names
 
@@ -157,11 +161,14 @@ some_known None row is = absurd (cc)
 some_known (Some known) row is = (known, refl)
 
 -- each record of the source is in the book
-pub name_known : {ours : Names} (w : World) → CalmAmong ours w → (q : RecordName) → Has (names_of w.history) q → (known : Known) × (w.book q ≡ Some known)
-name_known w c q has = elim (named_row [] w.history q has) [
+pub name_known_by : (w : World) → Follows w.book w.history → (q : RecordName) → Has (names_of w.history) q → (known : Known) × (w.book q ≡ Some known)
+name_known_by w follows q has = elim (named_row [] w.history q has) [
   | inl none ↦ absurd (cc none.1)
   | inr there ↦
       let its = kept_has (λ r. same_name (row_name r) q) w.history there.1.0 there.0 there.1.1 ((same_names (row_name there.0) q).1 there.2) in
       let (last, is_last) = has_last (rows_of w.history q) there.0 its in
-      some_known (w.book q) last (c.quiet.inv.follows q ∙ is_last)
+      some_known (w.book q) last (follows q ∙ is_last)
 ]
+
+pub name_known : {ours : Names} (w : World) → CalmAmong ours w → (q : RecordName) → Has (names_of w.history) q → (known : Known) × (w.book q ≡ Some known)
+name_known w c q has = name_known_by w c.quiet.inv.follows q has

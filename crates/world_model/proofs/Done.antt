@@ -7,19 +7,19 @@ use Rattle.provider_core.proofs.TableLaws.{held_at}
 use Rattle.source_csv.specs.Records.{row_revision}
 use Rattle.mapping.specs.Images.{image}
 use Rattle.connector_core.specs.History.{rows_of}
+use Rattle.connector_core.specs.Keeps.{Keeps}
 use Rattle.connector_core.specs.declared.knowledge.Known.{Known}
 use Rattle.world_model.specs.Safe.{Has, id_in}
 use Rattle.world_model.specs.Settled.{IsSettledOf}
 use Rattle.world_model.specs.World.{World}
 use Rattle.world_model.proofs.Asked.{IsDone, if_done}
-use Rattle.world_model.proofs.Keeping.{none_above_held}
+use Rattle.world_model.proofs.Keeping.{none_above_held_at}
 use Rattle.world_model.specs.Invariant.{Names, HasVersion}
-use Rattle.world_model.proofs.Phases.{is_last, its_law, its_ours}
-use Rattle.world_model.proofs.Quiet.{QuietAmong}
+use Rattle.world_model.proofs.Phases.{SoundAt, is_last, its_law, its_ours}
 use Rattle.world_model.proofs.Ranking.{lawful_revision}
 use Rattle.world_model.proofs.Rows.{last_or_below}
 
-module _ {ours : Names} (w : World) (q : QuietAmong ours w) (name : RecordName) (known : Known) (in_book : w.book name ≡ Some known) (done : IsDone known) where
+module _ {keeps : Keeps} {ours : Names} (w : World) (q : SoundAt keeps ours w) (name : RecordName) (known : Known) (in_book : w.book name ≡ Some known) (done : IsDone known) where
   confirmed : known.confirmed ≡ row_revision known.wanted
   confirmed = if_done known done
 
@@ -37,7 +37,7 @@ module _ {ours : Names} (w : World) (q : QuietAmong ours w) (name : RecordName) 
       let v = has_version.version in
       let mine : ours v.entry.name ≡ true = ap ours v.of_record ∙ its_ours w q name known in_book in
       let is = q.inv.kept.imaged v.place (length v.entry.earlier) v.entry v.entry.held v.here mine (held_at v.entry) in
-      let reached = none_above_held v.entry (q.inv.kept.rises v.place v.entry v.here mine) v.turn v.content known.confirmed (row_revision is.row) v.held v.at_revision is.revision in
+      let reached = none_above_held_at keeps v.entry (q.inv.kept.rises v.place v.entry v.here mine) v.turn v.content known.confirmed (row_revision is.row) v.held v.at_revision is.revision in
       let there : Has (rows_of w.history name) is.row = subst (λ (n : RecordName). Has (rows_of w.history n) is.row) v.of_record is.accepted in
       elim (last_or_below (rows_of w.history name) there.0 is.row known.wanted (q.inv.rising name) there.1 (is_last w q name known in_book)) [
         | inl same ↦ ap (image (id_in w.entries)) (sym same) ∙ is.image

@@ -41,7 +41,7 @@ use Rattle.connector_core.specs.declared.knowledge.Seen.{Seen}
 use Rattle.connector_core.specs.declared.knowledge.Seen.TheVariants.{Unknown, Absent, At}
 use Rattle.connector_core.specs.declared.learning.LearnFault.{LearnFault}
 use Rattle.world_model.specs.Healing.{IsStart}
-use Rattle.world_model.specs.Invariant.{Follows, ShowsTruly}
+use Rattle.world_model.specs.Invariant.{Follows, ShowsTruly, Sought}
 use Rattle.world_model.specs.Others.{Act, Ours, Theirs, acts, run_among}
 use Rattle.world_model.specs.Safe.{IsAt, Has, IsImage, id_in}
 use Rattle.world_model.specs.World.{World, Message, Asked, Answered, Event, Changes, Sends, Delivers, Cuts, Restarts_provider, Restarts_connector, Doubts, changes, sends, arrives, delivers, message_at, happens, judged}
@@ -122,14 +122,14 @@ pub record Renews (history : History) (es : List Entry) (id : List ℕ) (content
 
 abbrev pub AskedFairly : History → List Entry → Request → Type 0
 AskedFairly history es (Create content) = IsImage history es (content_name content) content
-AskedFairly history es (Retrieve kind id if_match if_none_match) = Unit {0}
-AskedFairly history es (Search kind wanted start count) = Unit {0}
+AskedFairly history es (Retrieve kind id if_match if_none_match) = ⊥
+AskedFairly history es (Search kind wanted start count) = Sought history (Search kind wanted start count)
 AskedFairly history es (Replace id content if_match if_none_match) = Renews history es id content if_match
 
 fairly_on : (history : History) (es : List Entry) (history' : History) (fs : List Entry) → Grows history es history' fs → (request : Request) → AskedFairly history es request → AskedFairly history' fs request
 fairly_on history es history' fs grows (Create content) asked = image_grows history es history' fs grows (content_name content) content asked
-fairly_on history es history' fs grows (Retrieve kind id if_match if_none_match) asked = tt
-fairly_on history es history' fs grows (Search kind wanted start count) asked = tt
+fairly_on history es history' fs grows (Retrieve kind id if_match if_none_match) asked = asked
+fairly_on history es history' fs grows (Search kind wanted start count) asked = record { row = asked.row; accepted = grows.rows (row_name asked.row) asked.row asked.accepted; is = asked.is }
 fairly_on history es history' fs grows (Replace id content if_match if_none_match) asked = record {
   image = image_grows history es history' fs grows (content_name content) content asked.image;
   tag = asked.tag;
@@ -172,9 +172,9 @@ put_true es book name now known its q k is = elim (cases_Bool (same_name name q)
 
 -- ---- what is sent
 
-search_fair : (history : History) (es : List Entry) (row : Row) → AskedFairly history es (search_for row)
-search_fair history es (User row) = tt
-search_fair history es (Group row) = tt
+search_fair : (history : History) (es : List Entry) (row : Row) → Has (rows_of history (row_name row)) row → AskedFairly history es (search_for row)
+search_fair history es (User row) accepted = record { row = User row; accepted = accepted; is = refl }
+search_fair history es (Group row) accepted = record { row = Group row; accepted = accepted; is = refl }
 
 module _ (w : World) (t : Durable w) where
   knows : GoesOn (known_id w.book) (id_in w.entries)
@@ -184,7 +184,7 @@ module _ (w : World) (t : Durable w) where
     accepted : Has (rows_of w.history name) known.wanted
     accepted = last_has (rows_of w.history name) known.wanted (sym (t.follows name) ∙ wanted_of (w.book name) known in_book)
 
-    its_name : row_name known.wanted ≡ name
+    pub its_name : row_name known.wanted ≡ name
     its_name = row_of_record w.history name known.wanted accepted
 
     module _ (content : Content) (has : image (known_id w.book) known.wanted ≡ Some content) where
@@ -203,7 +203,7 @@ module _ (w : World) (t : Durable w) where
       })
 
       request_fair : (seen : Seen) → known.seen ≡ seen → AskedFairly w.history w.entries (request_for seen known.wanted content)
-      request_fair Unknown is_seen = search_fair w.history w.entries known.wanted
+      request_fair Unknown is_seen = search_fair w.history w.entries known.wanted (subst (λ (n : RecordName). Has (rows_of w.history n) known.wanted) (sym its_name) accepted)
       request_fair Absent is_seen = its_image
       request_fair (At id tag r) is_seen =
           let s = (t.known name known in_book).seen id tag r is_seen in

@@ -10,10 +10,12 @@ use Rattle.scim_message.specs.declared.messages.Answer.{Answer}
 use Rattle.provider_core.specs.Stories.{step}
 use Rattle.provider_core.proofs.TableLaws.{at_end}
 use Rattle.connector_core.specs.Asking.{asking}
+use Rattle.connector_core.specs.Keeps.{Keeps, Revisions, Versions, learn_at}
 use Rattle.connector_core.specs.Learning.{learn, after_learning}
 use Rattle.connector_core.specs.declared.asking.Ask.{Ask}
 use Rattle.connector_core.specs.declared.asking.Ask.TheVariants.{Send}
 use Rattle.world_model.specs.World.{World, Message, Asked, Answered, Sends, Delivers, names, with_message, sends, replies, delivers, message_at, happens, run}
+use Rattle.world_model.specs.Providers.{answered, replies_at, delivers_at, happens_at, exchange_at}
 use Rattle.world_model.specs.Safe.{IsAt, Has}
 use Rattle.world_model.specs.Settled.{exchange}
 use Rattle.world_model.specs.Invariant.{Names, AskedTruly}
@@ -33,6 +35,17 @@ replied w request = replies (with_message w (Asked request)) request (step w.ent
 -- and when it was learnt from
 abbrev pub exchanged : World → Request → World
 exchanged w request = record (replied w request) { book = after_learning w.book (learn w.book request (answer_to w request)) }
+
+-- with a provider of this kind
+abbrev pub replied_at : Keeps → World → Request → World
+replied_at keeps w request = replies_at keeps (with_message w (Asked request)) request (step w.entries request)
+
+abbrev exchanged_at : Keeps → World → Request → World
+exchanged_at keeps w request = record (replied_at keeps w request) { book = after_learning w.book (learn_at keeps w.book request (answered keeps (answer_to w request))) }
+
+abbrev pub exchange_of : Keeps → World → RecordName → World
+exchange_of Revisions w name = exchange w name
+exchange_of Versions w name = exchange_at Versions w name
 
 module _ (w : World) (name : RecordName) (request : Request) (asks : asking w.book name ≡ Some (Send request)) where
   abbrev sent : World
@@ -54,6 +67,23 @@ module _ (w : World) (name : RecordName) (request : Request) (asks : asking w.bo
 
   pub exchange_is : exchange w name ≡ exchanged w request
   exchange_is = ap (λ (u : World). happens u (Delivers (suc first))) sent_is ∙ ap (λ (o : Option Message). delivers (replied w request) o) at_reply
+
+  -- ---- with each kind of provider
+  module _ (keeps : Keeps) where
+    at_reply_at : IsAt (replied_at keeps w request).messages first (Answered request (answered keeps (answer_to w request)))
+    at_reply_at =
+        let count : length sent.messages ≡ first = omega (arith, length-append w.messages (Asked request ∷ [])) in
+        ap (slice_get (replied_at keeps w request).messages) (sym count) ∙ at_end sent.messages (Answered request (answered keeps (answer_to w request)))
+
+    pub sent_is_at : happens_at keeps (happens_at keeps w (Sends name)) (Delivers first) ≡ replied_at keeps w request
+    sent_is_at = ap (λ (o : Option Ask). happens_at keeps (sends w o) (Delivers first)) asks ∙ ap (λ (o : Option Message). delivers_at keeps sent o) at_request
+
+    exchange_is_at : exchange_at keeps w name ≡ exchanged_at keeps w request
+    exchange_is_at = ap (λ (u : World). happens_at keeps u (Delivers (suc first))) sent_is_at ∙ ap (λ (o : Option Message). delivers_at keeps (replied_at keeps w request) o) at_reply_at
+
+  pub after_exchange : (keeps : Keeps) → exchange_of keeps w name ≡ exchanged_at keeps w request
+  after_exchange Revisions = exchange_is
+  after_exchange Versions = exchange_is_at Versions
 
   -- ---- while there is room
 

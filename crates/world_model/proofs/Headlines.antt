@@ -8,27 +8,29 @@ use Rattle.scim_resource.specs.Rows.{StoredRecord}
 use Rattle.scim_resource.specs.declared.contents.Content.{Content}
 use Rattle.provider_core.specs.Stories.{Entry, story, row_of, rows_from, AllGoOn}
 use Rattle.provider_core.proofs.TableLaws.{at_more, held_at, go_on_at}
+use Rattle.connector_core.specs.Keeps.{Keeps}
 use Rattle.connector_core.specs.Learning.{content_revision}
 use Rattle.connector_core.specs.declared.knowledge.Known.{Known}
 use Rattle.world_model.specs.World.{World, empty, run}
-use Rattle.world_model.specs.Safe.{IsAt, Has, rows, HasReached, IsImage, IsLater, HeadlineHolds}
-use Rattle.world_model.proofs.Onwards.{always_onward, always_onward_among}
-use Rattle.world_model.proofs.Keeping.{held_revision, none_above_held}
+use Rattle.world_model.specs.Safe.{IsAt, Has, rows, HasReached, IsImage, IsLater, Headline, HeadlineHolds}
+use Rattle.world_model.specs.Providers.{HeadlineHoldsAt, run_at}
+use Rattle.world_model.proofs.Onwards.{always_onward, always_onward_at, always_onward_among, onward_among_at}
+use Rattle.world_model.proofs.Keeping.{held_revision, none_above_held_at}
 use Rattle.world_model.proofs.Safety.{in_book_ours, version_reached}
-use Rattle.world_model.proofs.Invariant.{always_inv, always_inv_among}
-use Rattle.world_model.specs.Invariant.{Names, InvariantOf}
-use Rattle.world_model.specs.Others.{Act, run_among, Holds, KeepsApart, HeadlineAmong, HeadlineHoldsAmong}
+use Rattle.world_model.proofs.Invariant.{always_inv, always_inv_at, always_inv_among, always_inv_among_at}
+use Rattle.world_model.specs.Invariant.{Names, all_names, InvariantAt}
+use Rattle.world_model.specs.Others.{Act, run_among, run_among_at, Holds, KeepsApart, HeadlineAmong, HeadlineHoldsAmong, HeadlineHoldsAmongAt}
 
 -- ---- rows and entries
 
 -- the entry that a row is of
-record IsRowOf (es : List Entry) (i number : ℕ) (s : StoredRecord) : Type 0 where
-  entry : Entry
-  here : IsAt es i entry
-  numbered : s.number ≡ number
-  held : entry.held ≡ s.content
+pub record IsRowOf (es : List Entry) (i number : ℕ) (s : StoredRecord) : Type 0 where
+  pub entry : Entry
+  pub here : IsAt es i entry
+  pub numbered : s.number ≡ number
+  pub held : entry.held ≡ s.content
 
-row_at : (m : ℕ) (es : List Entry) (i : ℕ) (s : StoredRecord) → IsAt (rows_from m es) i s → IsRowOf es i (m + i) s
+pub row_at : (m : ℕ) (es : List Entry) (i : ℕ) (s : StoredRecord) → IsAt (rows_from m es) i s → IsRowOf es i (m + i) s
 row_at m [] i s at = absurd (cc)
 row_at m (e ∷ es) zero s at =
     let same : row_of m e ≡ s = cc in
@@ -40,14 +42,14 @@ row_at m (e ∷ es) (suc i) s at =
 row_eq : (m k : ℕ) (d e : Entry) → m ≡ k → d ≡ e → Some (row_of m d) ≡ Some (row_of k e)
 row_eq m k d e number entry = rw (number, entry) refl
 
-row_here : (m k : ℕ) (es : List Entry) (i : ℕ) (e : Entry) → k ≡ m + i → IsAt es i e → IsAt (rows_from m es) i (row_of k e)
+pub row_here : (m k : ℕ) (es : List Entry) (i : ℕ) (e : Entry) → k ≡ m + i → IsAt es i e → IsAt (rows_from m es) i (row_of k e)
 row_here m k [] i e number at = absurd (cc)
 row_here m k (d ∷ es) zero e number at = row_eq m k d e (omega (arith, number)) (cc)
 row_here m k (d ∷ es) (suc i) e number at = row_here (suc m) k es i e (omega (arith, number)) at
 
 -- ---- at one moment
 
-module _ {ours : Names} (w : World) (inv : InvariantOf ours w) where
+module _ {keeps : Keeps} {ours : Names} (w : World) (inv : InvariantAt keeps ours w) where
   held_named : (i : ℕ) (e : Entry) → IsAt w.entries i e → content_name e.held ≡ e.name
   held_named i e at = inv.kept.whole.named i (length e.earlier) e e.held at (held_at e)
 
@@ -93,9 +95,9 @@ module _ {ours : Names} (w : World) (inv : InvariantOf ours w) where
 
 -- ---- and later
 
-never_back : {ours : Names} (w v : World) (inv_w : InvariantOf ours w) (inv_v : InvariantOf ours v) → AllGoOn w.entries v.entries → (s : StoredRecord) → Holds ours w s
+never_back : {keeps : Keeps} {ours : Names} (w v : World) (inv_w : InvariantAt keeps ours w) (inv_v : InvariantAt keeps ours v) → AllGoOn w.entries v.entries → (s : StoredRecord) → Holds ours w s
     → (t : StoredRecord) × Has (rows v) t × IsLater s t
-never_back {ours} w v inv_w inv_v all s holds =
+never_back {keeps} {ours} w v inv_w inv_v all s holds =
     let has = holds.0 in
     let r = row_of_entry w inv_w s has in
     let e = r.entry in
@@ -106,7 +108,7 @@ never_back {ours} w v inv_w inv_v all s holds =
     let (held, has_held) = held_revision v.history v.entries inv_v.kept has.0 f at still in
     let in_story : IsAt (story f) (length e.earlier) e.held =
     subst (λ (contents : List Content). IsAt contents (length e.earlier) e.held) (sym goes.story) (at_more (story e) goes.more (length e.earlier) e.held (held_at e)) in
-    let up = none_above_held f (inv_v.kept.rises has.0 f at still) (length e.earlier) e.held earlier held in_story has_earlier has_held in
+    let up = none_above_held_at keeps f (inv_v.kept.rises has.0 f at still) (length e.earlier) e.held earlier held in_story has_earlier has_held in
     let later : IsLater s (row_of (suc has.0) f) = record {
       number = sym r.numbered;
       name = held_named v inv_v has.0 f at ∙ goes.name ∙ sym (its_name w inv_w s has r);
@@ -116,7 +118,7 @@ never_back {ours} w v inv_w inv_v all s holds =
     } in
     (row_of (suc has.0) f, (has.0, row_here 1 (suc has.0) v.entries has.0 f (omega arith) at), later)
 
-headline_now : {ours : Names} (w v : World) → InvariantOf ours w → InvariantOf ours v → AllGoOn w.entries v.entries → HeadlineAmong ours w v
+headline_now : {keeps : Keeps} {ours : Names} (w v : World) → InvariantAt keeps ours w → InvariantAt keeps ours v → AllGoOn w.entries v.entries → HeadlineAmong ours w v
 headline_now w v inv_w inv_v all = record {
   one_per_name = one_per_name w inv_w;
   its_image = its_image w inv_w;
@@ -134,12 +136,25 @@ headline_holds_among ours early late apart =
     headline_now (run_among empty early) (run_among empty (early ++ late)) (always_inv_among ours early (apart_early ours early late apart))
     (always_inv_among ours (early ++ late) apart) (always_onward_among early late).stories
 
-pub headline_holds : HeadlineHolds
-headline_holds early late =
-    let among = headline_now (run empty early) (run empty (early ++ late)) (always_inv early) (always_inv (early ++ late)) (always_onward early late).stories in
+headline_of : {keeps : Keeps} (w v : World) → InvariantAt keeps all_names w → InvariantAt keeps all_names v → AllGoOn w.entries v.entries → Headline w v
+headline_of w v inv_w inv_v all =
+    let among = headline_now w v inv_w inv_v all in
     record {
       one_per_name = among.one_per_name;
       its_image = λ s has. among.its_image s (has, refl);
       never_back = λ s has. among.never_back s (has, refl);
       reached = among.reached;
     }
+
+pub headline_holds : HeadlineHolds
+headline_holds early late =
+    headline_of (run empty early) (run empty (early ++ late)) (always_inv early) (always_inv (early ++ late)) (always_onward early late).stories
+
+pub headline_holds_at : HeadlineHoldsAt
+headline_holds_at keeps early late =
+    headline_of (run_at keeps empty early) (run_at keeps empty (early ++ late)) (always_inv_at keeps early) (always_inv_at keeps (early ++ late)) (always_onward_at keeps early late).stories
+
+pub headline_holds_among_at : HeadlineHoldsAmongAt
+headline_holds_among_at keeps ours early late apart =
+    headline_now (run_among_at keeps empty early) (run_among_at keeps empty (early ++ late)) (always_inv_among_at keeps ours early (apart_early ours early late apart))
+    (always_inv_among_at keeps ours (early ++ late) apart) (onward_among_at keeps early late).stories

@@ -21,12 +21,15 @@ use Rattle.connector_core.specs.declared.asking.Ask.{Ask}
 use Rattle.connector_core.specs.declared.asking.Ask.TheVariants.{Nothing, Waits, Send}
 use Rattle.connector_core.specs.declared.knowledge.Known.{Known}
 use Rattle.connector_core.specs.declared.learning.LearnFault.{LearnFault}
+use Rattle.connector_core.specs.Keeps.{Keeps, heard}
 use Rattle.connector_core.specs.Learning.{Finding, absent, nothing_new, none_sighted, forgetting, is_absent, is_under, Lesson, Learning, learn, after_learning}
 use Rattle.connector_core.specs.declared.changing.ChangeFault.{ChangeFault}
 use Rattle.connector_core.specs.Changing.{verdict, unknown_member, is_full, history_after, book_after}
+use Rattle.world_model.proofs.Hearing.{by_hearing}
 use Rattle.world_model.proofs.Learned.{LearnsShown, LearnsShown.sees, LearnsShown.agrees, LearnsShown.differs, Learns, Learns.shows, Learns.misses, Learns.is_taken, Learns.is_stale, learnt_by}
 use Rattle.world_model.specs.World.{World, Message, Asked, Answered, Event, Changes, Sends, Delivers, Cuts, Restarts_provider, Restarts_connector, Doubts, sends, delivers, message_at, happens, empty, names, judged, run}
 use Rattle.world_model.specs.Safe.{JudgesBySource}
+use Rattle.world_model.specs.Providers.{delivers_at, happens_at, run_at, JudgesBySourceAt}
 use Rattle.world_model.specs.Invariant.{Follows}
 use Rattle.world_model.specs.Others.{Act, Ours, Theirs, acts, run_among, JudgesBySourceAmong}
 
@@ -138,6 +141,24 @@ event_follows w Restarts_provider follows = follows
 event_follows w Restarts_connector follows = λ q. reopened_wants (w.book q) ∙ follows q
 event_follows w (Doubts name) follows = λ q. doubted_wants (same_name name q) (w.book q) ∙ follows q
 
+pub event_follows_at : (keeps : Keeps) (w : World) (event : Event) → Follows w.book w.history → Follows (happens_at keeps w event).book (happens_at keeps w event).history
+event_follows_at keeps w (Changes row) follows = event_follows w (Changes row) follows
+event_follows_at keeps w (Sends name) follows = event_follows w (Sends name) follows
+event_follows_at keeps w (Delivers number) follows = go (message_at w.messages number)
+  where
+    go : (o : Option Message) → Follows (delivers_at keeps w o).book (delivers_at keeps w o).history
+    go None = follows
+    go (Some (Asked request)) = follows
+    go (Some (Answered request answer)) = by_hearing keeps (λ (b : Book). Follows b w.history) w.book request answer follows (λ q. learn_keeps w.book request (heard keeps request answer) q ∙ follows q)
+event_follows_at keeps w (Cuts number length) follows = follows
+event_follows_at keeps w Restarts_provider follows = follows
+event_follows_at keeps w Restarts_connector follows = event_follows w Restarts_connector follows
+event_follows_at keeps w (Doubts name) follows = event_follows w (Doubts name) follows
+
+run_follows_at : (keeps : Keeps) (w : World) (events : List Event) → Follows w.book w.history → Follows (run_at keeps w events).book (run_at keeps w events).history
+run_follows_at keeps w [] follows = follows
+run_follows_at keeps w (event ∷ events) follows = run_follows_at keeps (happens_at keeps w event) events (event_follows_at keeps w event follows)
+
 pub run_follows : (w : World) (events : List Event) → Follows w.book w.history → Follows (run w events).book (run w events).history
 run_follows w [] follows = follows
 run_follows w (event ∷ events) follows = run_follows (happens w event) events (event_follows w event follows)
@@ -163,6 +184,9 @@ judged_by_source w row follows =
 
 pub judges_by_source : JudgesBySource
 judges_by_source events row = judged_by_source (run empty events) row (run_follows empty events (λ name. refl))
+
+pub judges_by_source_at : JudgesBySourceAt
+judges_by_source_at keeps events row = judged_by_source (run_at keeps empty events) row (run_follows_at keeps empty events (λ name. refl))
 
 -- ---- among others
 

@@ -2,8 +2,8 @@
 use Rattle.std.proofs.Common.{◌≡◌, ℕ, zero, suc, ◌<◌, ◌≤◌, true, List, [], ◌∷◌, ◌++◌, length, Some, ◌⊎◌, inl, inr, ap, sym, ◌∙◌, subst, arith, length-append}
 use Rattle.std.proofs.lemmas.Option.{slice_get_within}
 use Rattle.std.specs.List.{slice_get}
-use Rattle.scim_key.proofs.RevisionLaws.{reflexive_up_to, up_to_before}
-use Rattle.scim_key.specs.Revisions.{RevisionValue, ◌≺◌, ◌≼◌}
+use Rattle.scim_key.proofs.RevisionLaws.{reflexive_up_to}
+use Rattle.scim_key.specs.Revisions.{RevisionValue, ◌≼◌}
 use Rattle.scim_version.proofs.Versions.{has_version-alone}
 use Rattle.scim_version.specs.Conditions.{holds_match}
 use Rattle.scim_version.specs.Tags.{version_tag}
@@ -20,25 +20,27 @@ use Rattle.provider_core.proofs.StoryLaws.{stories_only_grow}
 use Rattle.provider_core.proofs.TableLaws.{at_push, at_one, at_renew, held_at, steps_write, tables_stay_whole}
 use Rattle.source_csv.specs.Records.{row_revision}
 use Rattle.connector_core.specs.History.{History}
+use Rattle.connector_core.specs.Keeps.{Keeps, Revisions}
 use Rattle.connector_core.specs.Learning.{content_revision}
 use Rattle.world_model.specs.Safe.{IsAt, IsImage, StoryRises}
-use Rattle.world_model.specs.Invariant.{Names, Kept, Overwrites, AskedTruly}
+use Rattle.world_model.specs.Providers.{RisesAt, StoryRisesAt}
+use Rattle.world_model.specs.Invariant.{Names, Kept, KeptAt, OverwritesAt, AskedTruly, AskedTrulyAt}
 use Rattle.world_model.specs.Others.{LeavesAlone}
 use Rattle.world_model.proofs.Growing.{Grows, image_grows}
-use Rattle.world_model.proofs.Order.{at_most_before}
+use Rattle.world_model.proofs.Order.{rises_up_to, at_most_rising}
 
 -- the revision of what an entry holds
-pub held_revision : {ours : Names} (history : History) (es : List Entry) → Kept ours history es → (i : ℕ) (e : Entry) → IsAt es i e → ours e.name ≡ true
+pub held_revision : {keeps : Keeps} {ours : Names} (history : History) (es : List Entry) → KeptAt keeps ours history es → (i : ℕ) (e : Entry) → IsAt es i e → ours e.name ≡ true
     → (held : RevisionValue) × (content_revision e.held ≡ Some held)
 held_revision history es kept i e at mine =
     let image = kept.imaged i (length e.earlier) e e.held at mine (held_at e) in
     (row_revision image.row, image.revision)
 
 -- no content of a story has a higher revision than the one that is held
-pub none_above_held : (e : Entry) → StoryRises (story e) → (j : ℕ) (c : Content) (r held : RevisionValue) → IsAt (story e) j c → content_revision c ≡ Some r
+pub none_above_held_at : (keeps : Keeps) (e : Entry) → StoryRisesAt keeps (story e) → (j : ℕ) (c : Content) (r held : RevisionValue) → IsAt (story e) j c → content_revision c ≡ Some r
     → content_revision e.held ≡ Some held → r ≼ held
-none_above_held e rises j c r held at has_r has_held = elim (at_push e.earlier e.held j c at) [
-  | inl old ↦ up_to_before r held (rises j (length e.earlier) c e.held r held (slice_get_within e.earlier j c old) at (held_at e) has_r has_held)
+none_above_held_at keeps e rises j c r held at has_r has_held = elim (at_push e.earlier e.held j c at) [
+  | inl old ↦ rises_up_to keeps r held (rises j (length e.earlier) c e.held r held (slice_get_within e.earlier j c old) at (held_at e) has_r has_held)
   | inr last ↦
       let same : Some held ≡ Some r = sym has_held ∙ ap content_revision last.1 ∙ has_r in
       let equal : held ≡ r = cc in
@@ -46,9 +48,9 @@ none_above_held e rises j c r held at has_r has_held = elim (at_push e.earlier e
 ]
 
 -- one more content of a higher revision
-push_rises : (contents : List Content) (content : Content) (newer : RevisionValue) → StoryRises contents → content_revision content ≡ Some newer
-    → ((j : ℕ) (c : Content) (r : RevisionValue) → IsAt contents j c → content_revision c ≡ Some r → r ≺ newer) → StoryRises (contents ++ content ∷ [])
-push_rises contents content newer rises has_newer above i j c d r s lt at_c at_d has_r has_s = elim (at_push contents content j d at_d) [
+push_rises : (keeps : Keeps) (contents : List Content) (content : Content) (newer : RevisionValue) → StoryRisesAt keeps contents → content_revision content ≡ Some newer
+    → ((j : ℕ) (c : Content) (r : RevisionValue) → IsAt contents j c → content_revision c ≡ Some r → RisesAt keeps r newer) → StoryRisesAt keeps (contents ++ content ∷ [])
+push_rises keeps contents content newer rises has_newer above i j c d r s lt at_c at_d has_r has_s = elim (at_push contents content j d at_d) [
   | inl old_d ↦ elim (at_push contents content i c at_c) [
     | inl old_c ↦ rises i j c d r s lt old_c old_d has_r has_s
     | inr new_c ↦ let within = slice_get_within contents j d old_d in absurd (omega (arith, lt, new_c.0, within))
@@ -57,19 +59,19 @@ push_rises contents content newer rises has_newer above i j c d r s lt at_c at_d
     | inl old_c ↦
         let same : Some newer ≡ Some s = sym has_newer ∙ ap content_revision new_d.1 ∙ has_s in
         let equal : newer ≡ s = cc in
-        subst (λ (x : RevisionValue). r ≺ x) equal (above i c r old_c has_r)
+        subst (λ (x : RevisionValue). RisesAt keeps r x) equal (above i c r old_c has_r)
     | inr new_c ↦ absurd (omega (arith, lt, new_c.0, new_d.0))
   ]
 ]
 
-one_rises : (content : Content) → StoryRises (content ∷ [])
-one_rises content zero zero c d r s lt at_c at_d has_r has_s = absurd (omega (arith, lt))
-one_rises content zero (suc j) c d r s lt at_c at_d has_r has_s = absurd (cc)
-one_rises content (suc i) j c d r s lt at_c at_d has_r has_s = absurd (cc)
+one_rises : (keeps : Keeps) (content : Content) → StoryRisesAt keeps (content ∷ [])
+one_rises keeps content zero zero c d r s lt at_c at_d has_r has_s = absurd (omega (arith, lt))
+one_rises keeps content zero (suc j) c d r s lt at_c at_d has_r has_s = absurd (cc)
+one_rises keeps content (suc i) j c d r s lt at_c at_d has_r has_s = absurd (cc)
 
 -- ---- a Create
 
-module _ {ours : Names} (history : History) (es : List Entry) (content : Content) (kept : Kept ours history es)
+module _ {keeps : Keeps} {ours : Names} (history : History) (es : List Entry) (content : Content) (kept : KeptAt keeps ours history es)
     (asked : ours (content_name content) ≡ true → IsImage history es (content_name content) content) (grows : Grows history es history (es ++ first_entry content ∷ [])) where
   abbrev with_first : List Entry
   with_first = es ++ first_entry content ∷ []
@@ -82,10 +84,10 @@ module _ {ours : Names} (history : History) (es : List Entry) (content : Content
         (image_grows history es history with_first grows (content_name content) content (asked its))) mine held
   ]
 
-  created_rises : (i : ℕ) (e : Entry) → IsAt with_first i e → ours e.name ≡ true → StoryRises (story e)
+  created_rises : (i : ℕ) (e : Entry) → IsAt with_first i e → ours e.name ≡ true → StoryRisesAt keeps (story e)
   created_rises i e at mine = elim (at_push es (first_entry content) i e at) [
     | inl old ↦ kept.rises i e old mine
-    | inr new ↦ subst (λ (x : Entry). StoryRises (story x)) new.1 (one_rises content)
+    | inr new ↦ subst (λ (x : Entry). StoryRisesAt keeps (story x)) new.1 (one_rises keeps content)
   ]
 
   created_short : (i : ℕ) (e : Entry) → IsAt with_first i e → length (story e) ≤ last_version
@@ -94,7 +96,7 @@ module _ {ours : Names} (history : History) (es : List Entry) (content : Content
     | inr new ↦ subst (λ (x : Entry). length (story x) ≤ last_version) new.1 (omega arith)
   ]
 
-  pub created_kept : Kept ours history with_first
+  pub created_kept : KeptAt keeps ours history with_first
   created_kept = record { whole = grows.whole; rises = created_rises; imaged = created_imaged; short = created_short }
 
 -- ---- a Replace
@@ -108,8 +110,8 @@ tag_is_last turn count tag if_match alone is within short holds =
     (has_version-alone (suc turn) count (omega (arith, within, short)) (omega (arith, short))).0 (subst Q is (subst P alone holds))
 
 -- the story of a record of ours
-module _ {ours : Names} (history : History) (es : List Entry) (i : ℕ) (e : Entry) (content : Content) (if_match : Condition) (id : List ℕ) (kept : Kept ours history es)
-    (mine : ours e.name ≡ true) (asked : Overwrites history es id content if_match) (there : IsAt es i e) (named : e.name ≡ content_name content) (below : length (story e) < last_version)
+module _ {keeps : Keeps} {ours : Names} (history : History) (es : List Entry) (i : ℕ) (e : Entry) (content : Content) (if_match : Condition) (id : List ℕ) (kept : KeptAt keeps ours history es)
+    (mine : ours e.name ≡ true) (asked : OverwritesAt keeps history es id content if_match) (there : IsAt es i e) (named : e.name ≡ content_name content) (below : length (story e) < last_version)
     (holds : holds_match if_match (Some (length (story e))) ≡ true) (grows : Grows history es history (renew_at i content es)) where
   -- the version that the request is for is the last of the entry's story
   overwritten : (held : RevisionValue) → content_revision e.held ≡ Some held → held ≡ asked.older
@@ -127,14 +129,14 @@ module _ {ours : Names} (history : History) (es : List Entry) (i : ℕ) (e : Ent
       let revisions : Some held ≡ Some asked.older = sym has_held ∙ ap content_revision (sym its) ∙ v.at_revision in
       cc
 
-  all_below : (j : ℕ) (c : Content) (r : RevisionValue) → IsAt (story e) j c → content_revision c ≡ Some r → r ≺ asked.newer
+  all_below : (j : ℕ) (c : Content) (r : RevisionValue) → IsAt (story e) j c → content_revision c ≡ Some r → RisesAt keeps r asked.newer
   all_below j c r at has_r =
       let (held, has_held) = held_revision history es kept i e there mine in
-      let up = none_above_held e (kept.rises i e there mine) j c r held at has_r has_held in
-      at_most_before r asked.older asked.newer (subst (λ (x : RevisionValue). r ≼ x) (overwritten held has_held) up) asked.rises
+      let up = none_above_held_at keeps e (kept.rises i e there mine) j c r held at has_r has_held in
+      at_most_rising keeps r asked.older asked.newer (subst (λ (x : RevisionValue). r ≼ x) (overwritten held has_held) up) asked.rises
 
-  renewed_story_rises : StoryRises (story (renewed e content))
-  renewed_story_rises = push_rises (story e) content asked.newer (kept.rises i e there mine) asked.revision all_below
+  renewed_story_rises : StoryRisesAt keeps (story (renewed e content))
+  renewed_story_rises = push_rises keeps (story e) content asked.newer (kept.rises i e there mine) asked.revision all_below
 
   story_imaged : (j : ℕ) (c : Content) → IsAt (story e ++ content ∷ []) j c → IsImage history (renew_at i content es) e.name c
   story_imaged j c at = elim (at_push (story e) content j c at) [
@@ -146,10 +148,10 @@ module _ {ours : Names} (history : History) (es : List Entry) (i : ℕ) (e : Ent
   ]
 
 -- any story
-module _ {ours : Names} (history : History) (es : List Entry) (i : ℕ) (e : Entry) (content : Content) (if_match : Condition) (id : List ℕ) (kept : Kept ours history es)
-    (asked : ours (content_name content) ≡ true → Overwrites history es id content if_match) (there : IsAt es i e) (named : e.name ≡ content_name content)
+module _ {keeps : Keeps} {ours : Names} (history : History) (es : List Entry) (i : ℕ) (e : Entry) (content : Content) (if_match : Condition) (id : List ℕ) (kept : KeptAt keeps ours history es)
+    (asked : ours (content_name content) ≡ true → OverwritesAt keeps history es id content if_match) (there : IsAt es i e) (named : e.name ≡ content_name content)
     (below : length (story e) < last_version) (holds : holds_match if_match (Some (length (story e))) ≡ true) (grows : Grows history es history (renew_at i content es)) where
-  asked_if_mine : ours e.name ≡ true → Overwrites history es id content if_match
+  asked_if_mine : ours e.name ≡ true → OverwritesAt keeps history es id content if_match
   asked_if_mine mine = asked (ap ours (sym named) ∙ mine)
 
   abbrev with_next : List Entry
@@ -170,10 +172,10 @@ module _ {ours : Names} (history : History) (es : List Entry) (i : ℕ) (e : Ent
             inr (new.1 ∙ ap (λ x. renewed x content) entry)
       ]
 
-  renewed_rises : (k : ℕ) (f : Entry) → IsAt with_next k f → ours f.name ≡ true → StoryRises (story f)
+  renewed_rises : (k : ℕ) (f : Entry) → IsAt with_next k f → ours f.name ≡ true → StoryRisesAt keeps (story f)
   renewed_rises k f at mine = elim (cases k f at) [
     | inl old ↦ kept.rises k f old mine
-    | inr new ↦ subst (λ (x : Entry). ours x.name ≡ true → StoryRises (story x)) (sym new)
+    | inr new ↦ subst (λ (x : Entry). ours x.name ≡ true → StoryRisesAt keeps (story x)) (sym new)
         (λ its. renewed_story_rises history es i e content if_match id kept its (asked_if_mine its) there named below holds grows) mine
   ]
 
@@ -190,36 +192,36 @@ module _ {ours : Names} (history : History) (es : List Entry) (i : ℕ) (e : Ent
     | inr new ↦ subst (λ (x : Entry). length (story x) ≤ last_version) (sym new) (omega (arith, below, length-append (story e) (content ∷ [])))
   ]
 
-  pub renewed_kept : Kept ours history with_next
+  pub renewed_kept : KeptAt keeps ours history with_next
   renewed_kept = record { whole = grows.whole; rises = renewed_rises; imaged = renewed_imaged; short = renewed_short }
 
 -- ---- every request
 
 -- what a request writes of our records is asked truly
-abbrev pub WritesTruly : Names → History → List Entry → Request → Type 0
-WritesTruly ours history es (Create content) = ours (content_name content) ≡ true → IsImage history es (content_name content) content
-WritesTruly ours history es (Retrieve kind id if_match if_none_match) = Unit {0}
-WritesTruly ours history es (Search kind wanted start count) = Unit {0}
-WritesTruly ours history es (Replace id content if_match if_none_match) = ours (content_name content) ≡ true → Overwrites history es id content if_match
+abbrev pub WritesTrulyAt : Keeps → Names → History → List Entry → Request → Type 0
+WritesTrulyAt keeps ours history es (Create content) = ours (content_name content) ≡ true → IsImage history es (content_name content) content
+WritesTrulyAt keeps ours history es (Retrieve kind id if_match if_none_match) = Unit {0}
+WritesTrulyAt keeps ours history es (Search kind wanted start count) = Unit {0}
+WritesTrulyAt keeps ours history es (Replace id content if_match if_none_match) = ours (content_name content) ≡ true → OverwritesAt keeps history es id content if_match
 
 -- so it is if the connector asks, or if somebody else does and leaves our records alone
-pub if_asked : (ours : Names) (history : History) (es : List Entry) (request : Request) → AskedTruly history es request → WritesTruly ours history es request
-if_asked ours history es (Create content) asked = λ mine. asked
-if_asked ours history es (Retrieve kind id if_match if_none_match) asked = tt
-if_asked ours history es (Search kind wanted start count) asked = tt
-if_asked ours history es (Replace id content if_match if_none_match) asked = λ mine. asked
+pub if_asked_at : (keeps : Keeps) (ours : Names) (history : History) (es : List Entry) (request : Request) → AskedTrulyAt keeps history es request → WritesTrulyAt keeps ours history es request
+if_asked_at keeps ours history es (Create content) asked = λ mine. asked
+if_asked_at keeps ours history es (Retrieve kind id if_match if_none_match) asked = tt
+if_asked_at keeps ours history es (Search kind wanted start count) asked = tt
+if_asked_at keeps ours history es (Replace id content if_match if_none_match) asked = λ mine. asked
 
-pub if_alone : (ours : Names) (history : History) (es : List Entry) (request : Request) → LeavesAlone ours request → WritesTruly ours history es request
-if_alone ours history es (Create content) alone = λ mine. absurd (cc)
-if_alone ours history es (Retrieve kind id if_match if_none_match) alone = tt
-if_alone ours history es (Search kind wanted start count) alone = tt
-if_alone ours history es (Replace id content if_match if_none_match) alone = λ mine. absurd (cc)
+pub if_alone_at : (keeps : Keeps) (ours : Names) (history : History) (es : List Entry) (request : Request) → LeavesAlone ours request → WritesTrulyAt keeps ours history es request
+if_alone_at keeps ours history es (Create content) alone = λ mine. absurd (cc)
+if_alone_at keeps ours history es (Retrieve kind id if_match if_none_match) alone = tt
+if_alone_at keeps ours history es (Search kind wanted start count) alone = tt
+if_alone_at keeps ours history es (Replace id content if_match if_none_match) alone = λ mine. absurd (cc)
 
-kept_by : {ours : Names} (history : History) {es : List Entry} {request : Request} {fs : List Entry} → Writes es request fs → Kept ours history es → WritesTruly ours history es request
-    → Grows history es history fs → Kept ours history fs
-kept_by history nothing kept asked grows = kept
-kept_by history (created {es = es} content free) kept asked grows = created_kept history es content kept asked grows
-kept_by history (replaced {es = es} i e content m n there named below holds) kept asked grows =
+kept_by : (keeps : Keeps) {ours : Names} (history : History) {es : List Entry} {request : Request} {fs : List Entry} → Writes es request fs → KeptAt keeps ours history es → WritesTrulyAt keeps ours history es request
+    → Grows history es history fs → KeptAt keeps ours history fs
+kept_by keeps history nothing kept asked grows = kept
+kept_by keeps history (created {es = es} content free) kept asked grows = created_kept history es content kept asked grows
+kept_by keeps history (replaced {es = es} i e content m n there named below holds) kept asked grows =
     renewed_kept history es i e content m _ kept asked there named below holds grows
 
 pub step_grows : (history : History) (es : List Entry) (request : Request) → IsWholeTable es → Grows history es history (step es request).entries
@@ -229,6 +231,25 @@ step_grows history es request whole = record {
   whole = tables_stay_whole es request whole;
 }
 
+pub step_keeps_at : (keeps : Keeps) {ours : Names} (history : History) (es : List Entry) (request : Request) → KeptAt keeps ours history es → WritesTrulyAt keeps ours history es request
+    → KeptAt keeps ours history (step es request).entries
+step_keeps_at keeps history es request kept asked = kept_by keeps history (steps_write es request) kept asked (step_grows history es request kept.whole)
+
+-- ---- with a provider that keeps revisions
+
+pub none_above_held : (e : Entry) → StoryRises (story e) → (j : ℕ) (c : Content) (r held : RevisionValue) → IsAt (story e) j c → content_revision c ≡ Some r
+    → content_revision e.held ≡ Some held → r ≼ held
+none_above_held = none_above_held_at Revisions
+
+abbrev pub WritesTruly : Names → History → List Entry → Request → Type 0
+WritesTruly ours history es request = WritesTrulyAt Revisions ours history es request
+
+pub if_asked : (ours : Names) (history : History) (es : List Entry) (request : Request) → AskedTruly history es request → WritesTruly ours history es request
+if_asked = if_asked_at Revisions
+
+pub if_alone : (ours : Names) (history : History) (es : List Entry) (request : Request) → LeavesAlone ours request → WritesTruly ours history es request
+if_alone = if_alone_at Revisions
+
 pub step_keeps : {ours : Names} (history : History) (es : List Entry) (request : Request) → Kept ours history es → WritesTruly ours history es request
     → Kept ours history (step es request).entries
-step_keeps history es request kept asked = kept_by history (steps_write es request) kept asked (step_grows history es request kept.whole)
+step_keeps history es request kept asked = step_keeps_at Revisions history es request kept asked

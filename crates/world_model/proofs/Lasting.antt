@@ -44,16 +44,16 @@ use Rattle.world_model.proofs.Lists.{last_has}
 -- ---- from then on
 
 -- each entry of these records holds an image, with its members in any order
-abbrev Images : List RecordName → History → List Entry → Type 0
+abbrev pub Images : List RecordName → History → List Entry → Type 0
 Images these history es = (i : ℕ) (e : Entry) → IsAt es i e → Has these e.name → IsImageInAnyOrder history es e.name e.held
 
-abbrev HoldsImages : List RecordName → World → Type 0
+abbrev pub HoldsImages : List RecordName → World → Type 0
 HoldsImages these w = Images these w.history w.entries
 
-like_image : (history : History) (es : List Entry) (name : RecordName) (content : Content) → IsImage history es name content → IsImageInAnyOrder history es name content
+pub like_image : (history : History) (es : List Entry) (name : RecordName) (content : Content) → IsImage history es name content → IsImageInAnyOrder history es name content
 like_image history es name content is = record { row = is.row; accepted = is.accepted; content = content; imaged = is.image; same = agrees_with_itself content }
 
-like_grows : (history : History) (es : List Entry) (history' : History) (fs : List Entry) → Grows history es history' fs → (name : RecordName) (held : Content) → IsImageInAnyOrder history es name held
+pub like_grows : (history : History) (es : List Entry) (history' : History) (fs : List Entry) → Grows history es history' fs → (name : RecordName) (held : Content) → IsImageInAnyOrder history es name held
     → IsImageInAnyOrder history' fs name held
 like_grows history es history' fs grows name held is = record {
   row = is.row;
@@ -63,7 +63,7 @@ like_grows history es history' fs grows name held is = record {
   same = is.same;
 }
 
-healed_holds : (v : World) → Durable v → IsHealed v → HoldsImages (names v) v
+pub healed_holds : (v : World) → Durable v → IsHealed v → HoldsImages (names v) v
 healed_holds v t healed i e at has =
     let s = healed e.name has in
     let place : s.of_record.0.0 ≡ i = t.whole.distinct s.of_record.0.0 i s.entry e s.of_record.0.1 at s.of_record.1 in

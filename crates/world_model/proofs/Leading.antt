@@ -3,25 +3,28 @@
 use Rattle.std.proofs.Common.{◌≡◌, suc, length, Option, Some, Result, Ok, Err, IsOk, refl, ap, ◌∙◌, subst}
 use Rattle.scim_key.specs.Outcome.{◌>>=◌}
 use Rattle.scim_key.specs.declared.records.RecordName.{RecordName}
+use Rattle.scim_resource.specs.Contents.{content_name}
 use Rattle.scim_resource.specs.Rows.{ShownRecord}
 use Rattle.scim_message.specs.declared.messages.Answer.{Answer}
 use Rattle.scim_message.specs.declared.messages.Request.{Request}
 use Rattle.provider_core.specs.Stories.{step}
 use Rattle.connector_core.specs.Asking.{asking}
 use Rattle.connector_core.specs.Book.{Book, put}
+use Rattle.connector_core.specs.Keeps.{Keeps, heard, learn_at}
 use Rattle.connector_core.specs.Learning.{or_fault, Finding, Shows, Lesson, shown_lesson, finding, subject, noted, learn, after_learning}
 use Rattle.connector_core.specs.declared.asking.Ask.TheVariants.{Send}
 use Rattle.connector_core.specs.declared.knowledge.Known.{Known}
 use Rattle.connector_core.specs.declared.learning.LearnFault.{LearnFault}
 use Rattle.connector_core.specs.declared.learning.LearnFault.TheVariants.{Unfit, NoSuchRecord}
-use Rattle.world_model.specs.World.{World, Answered}
-use Rattle.world_model.specs.Settled.{exchange, Wants}
-use Rattle.world_model.proofs.Exchanging.{answer_to, replied, exchange_is, at_reply, replied_quiet}
-use Rattle.world_model.proofs.Learned.{LearnsShown, learns_shown, taught, told, told_of}
-use Rattle.world_model.proofs.Learning.{learns}
-use Rattle.world_model.specs.Invariant.{Names}
-use Rattle.world_model.specs.Room.{HasRoom}
-use Rattle.world_model.proofs.Quiet.{QuietAmong}
+use Rattle.world_model.specs.World.{World, Sends, Delivers}
+use Rattle.world_model.specs.Providers.{answered, happens_at}
+use Rattle.world_model.specs.Settled.{Wants}
+use Rattle.world_model.proofs.Exchanging.{answer_to, exchange_of, replied_at, sent_is_at, after_exchange}
+use Rattle.world_model.proofs.Hearing.{hearing, heard_said, hears, learn_heard, answered_truly}
+use Rattle.world_model.proofs.Invariant.{of_ours_inv_at}
+use Rattle.world_model.proofs.Learned.{LearnsShown, learns_shown, taught, told, told_of, shows_first}
+use Rattle.world_model.proofs.Learning.{shown_ok}
+use Rattle.world_model.specs.Invariant.{Names, InvariantAt, StandsAt}
 
 -- what is said about a record is learnt about it
 pub learn_is : (book : Book) (request : Request) (answer : Answer) (name : RecordName) (known : Known) (said : Finding) → subject request ≡ Some name → book name ≡ Some known
@@ -31,53 +34,55 @@ learn_is book request answer name known said about in_book says =
     ∙ ap (λ (o : Option Known). or_fault NoSuchRecord o >>= told book request answer name) in_book
     ∙ ap (λ (r : Result Finding LearnFault). r >>= taught book name known) says
 
-first_ok : {A B : Type 0} (r : Result A LearnFault) (f : A → Result B LearnFault) → IsOk (r >>= f) → (x : A) × (r ≡ Ok x)
-first_ok (Ok x) f ok = (x, refl)
-first_ok (Err fault) f ok = absurd (cc)
+ok_is : {A : Type 0} (r : Result A LearnFault) → IsOk r → (x : A) × (r ≡ Ok x)
+ok_is (Ok x) ok = (x, refl)
+ok_is (Err fault) ok = absurd (cc)
 
 -- after an exchange for the record in which this request was sent, this is known of it
-pub record Leads (w : World) (name : RecordName) (request : Request) (now : Known) : Type 0 where
+pub record Leads (keeps : Keeps) (w : World) (name : RecordName) (request : Request) (now : Known) : Type 0 where
   pub wants : Wants w name
-  pub book : (exchange w name).book ≡ put w.book name now
-  pub history : (exchange w name).history ≡ w.history
-  pub entries : (exchange w name).entries ≡ (step w.entries request).entries
+  pub book : (exchange_of keeps w name).book ≡ put w.book name now
+  pub history : (exchange_of keeps w name).history ≡ w.history
+  pub entries : (exchange_of keeps w name).entries ≡ (step w.entries request).entries
 
-module _ {ours : Names} (w : World) (room : HasRoom w) (q : QuietAmong ours w) (name : RecordName) (known : Known) (request : Request) (said : Finding)
+module _ (keeps : Keeps) (w : World) (name : RecordName) (known : Known) (request : Request) (said : Finding)
     (asks : asking w.book name ≡ Some (Send request)) (about : subject request ≡ Some name) (in_book : w.book name ≡ Some known) (says : finding request (answer_to w request) ≡ Ok said) where
-  learnt : learn w.book request (answer_to w request) ≡ taught w.book name known said
-  learnt = learn_is w.book request (answer_to w request) name known said about in_book says
+  learnt : learn_at keeps w.book request (answered keeps (answer_to w request)) ≡ taught w.book name known (heard_said keeps request said)
+  learnt = learn_heard keeps w.book w.entries request
+      ∙ learn_is w.book request (heard keeps request (answered keeps (answer_to w request))) name known (heard_said keeps request said) about in_book (hears keeps request (answer_to w request) said says)
 
-  pub leads_to : (now : Known) → after_learning w.book (taught w.book name known said) ≡ put w.book name now → Leads w name request now
+  pub leads_to : (now : Known) → after_learning w.book (taught w.book name known (heard_said keeps request said)) ≡ put w.book name now → Leads keeps w name request now
   leads_to now after = record {
     wants = (request, asks);
-    book = ap (λ (u : World). u.book) (exchange_is w name request asks) ∙ ap (after_learning w.book) learnt ∙ after;
-    history = ap (λ (u : World). u.history) (exchange_is w name request asks);
-    entries = ap (λ (u : World). u.entries) (exchange_is w name request asks);
+    book = ap (λ (u : World). u.book) (after_exchange w name request asks keeps) ∙ ap (after_learning w.book) learnt ∙ after;
+    history = ap (λ (u : World). u.history) (after_exchange w name request asks keeps);
+    entries = ap (λ (u : World). u.entries) (after_exchange w name request asks keeps);
   }
 
-  is_learnt : IsOk (taught w.book name known said)
-  is_learnt =
-      let u = replied w request in
-      let r = replied_quiet w name request asks room q in
-      let place = suc (length w.messages) in
-      let there = at_reply w name request asks in
-      let ok = learns u request (answer_to w request) r.inv (r.inv.told place (Answered request (answer_to w request)) there) (r.answered place request (answer_to w request) there) in
-      subst IsOk learnt ok
-
 -- what is learnt from a shown resource
-pub record Sees (w : World) (name : RecordName) (known : Known) (request : Request) (s : ShownRecord) : Type 0 where
+pub record Sees (keeps : Keeps) (w : World) (name : RecordName) (known : Known) (request : Request) (s : ShownRecord) : Type 0 where
   pub lesson : Lesson
-  pub learns : LearnsShown w.book name known s lesson
-  pub leads : Leads w name request lesson.known
+  pub learns : LearnsShown w.book name known (hearing keeps request s) lesson
+  pub leads : Leads keeps w name request lesson.known
 
-module _ {ours : Names} (w : World) (room : HasRoom w) (q : QuietAmong ours w) (name : RecordName) (known : Known) (request : Request) (s : ShownRecord)
-    (asks : asking w.book name ≡ Some (Send request)) (about : subject request ≡ Some name) (in_book : w.book name ≡ Some known) (says : finding request (answer_to w request) ≡ Ok (Shows s)) where
-  pub seen_in : Sees w name known request s
+module _ (keeps : Keeps) {ours : Names} (w : World) (inv : InvariantAt keeps ours w) (name : RecordName) (known : Known) (request : Request) (s : ShownRecord)
+    (asks : asking w.book name ≡ Some (Send request)) (about : subject request ≡ Some name) (in_book : w.book name ≡ Some known) (says : finding request (answer_to w request) ≡ Ok (Shows s))
+    (named : content_name (hearing keeps request s).content ≡ name) where
+  -- the world when the reply was given
+  replied_inv : InvariantAt keeps ours (replied_at keeps w request)
+  replied_inv = subst (λ (u : World). InvariantAt keeps ours u) (sent_is_at w name request asks keeps)
+      (of_ours_inv_at keeps (happens_at keeps w (Sends name)) (Delivers (suc (length w.messages))) tt (of_ours_inv_at keeps w (Sends name) tt inv))
+
+  its_stands : StandsAt keeps (step w.entries request).entries (hearing keeps request s)
+  its_stands = answered_truly keeps w.entries request 0 (hearing keeps request s)
+      (shows_first request (heard keeps request (answered keeps (answer_to w request))) (hearing keeps request s) (hears keeps request (answer_to w request) (Shows s) says))
+
+  pub seen_in : Sees keeps w name known request s
   seen_in =
-      let ok = is_learnt w room q name known request (Shows s) asks about in_book says in
-      let (l, is) = first_ok (shown_lesson w.book name known s) (λ l. Ok (noted w.book name l)) ok in
+      let heard_one = hearing keeps request s in
+      let (l, is) = ok_is (shown_lesson w.book name known heard_one) (shown_ok (replied_at keeps w request) replied_inv name known in_book heard_one its_stands named) in
       record {
         lesson = l;
-        learns = learns_shown w.book name known s l is;
-        leads = leads_to w room q name known request (Shows s) asks about in_book says l.known (ap (λ (r : Result Lesson LearnFault). after_learning w.book (r >>= λ l. Ok (noted w.book name l))) is);
+        learns = learns_shown w.book name known heard_one l is;
+        leads = leads_to keeps w name known request (Shows s) asks about in_book says l.known (ap (λ (r : Result Lesson LearnFault). after_learning w.book (r >>= λ l. Ok (noted w.book name l))) is);
       }

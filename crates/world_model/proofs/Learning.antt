@@ -1,12 +1,12 @@
 -- The connector learns from every answer that says something of a record with accepted rows and shows facts.
-use Rattle.std.proofs.Common.{◌≡◌, ℕ, zero, suc, Bool, true, false, cond, not, List, [], ◌∷◌, Option, Some, None, Result, Ok, Err, IsOk, refl, ap, sym, ◌∙◌, subst}
+use Rattle.std.proofs.Common.{◌≡◌, ℕ, zero, suc, Bool, true, false, cond, not, List, [], ◌∷◌, Option, Some, None, Result, Ok, Err, IsOk, inl, inr, refl, ap, sym, ◌∙◌, subst}
 use Rattle.std.proofs.lemmas.Bool.{not_from_false}
 use Rattle.std.proofs.lemmas.Slice.Eq.{bytes_eq-Decides}
 use Rattle.std.specs.List.{last_or}
 use Rattle.std.specs.Option.{option_map}
-use Rattle.scim_key.proofs.RevisionLaws.{reflexive_up_to, up_to_before, transitive_up_to}
+use Rattle.scim_key.proofs.RevisionLaws.{none_first, reflexive_up_to, up_to_before, transitive_up_to}
 use Rattle.scim_key.specs.Outcome.{◌>>=◌}
-use Rattle.scim_key.specs.Revisions.{RevisionValue, before, ◌≼◌}
+use Rattle.scim_key.specs.Revisions.{RevisionValue, before, no_revision, ◌≼◌}
 use Rattle.scim_key.specs.declared.records.RecordName.{RecordName}
 use Rattle.scim_version.specs.Tags.{version_tag}
 use Rattle.scim_resource.specs.Contents.{content_name}
@@ -18,19 +18,21 @@ use Rattle.provider_core.proofs.TableLaws.{same_if_eq}
 use Rattle.source_csv.specs.Records.{row_revision}
 use Rattle.source_csv.specs.declared.rows.Row.{Row}
 use Rattle.connector_core.specs.History.{Rises, rows_of, same_name}
-use Rattle.connector_core.specs.Learning.{or_fault, fault_unless, Finding, Shows, Shows_none, Taken, Stale, fit, fits_id, sighted, is_wanted, or_no_revision, shown_revision, fit_differing, differing, agreeing, compared, lesson, finding, subject, content_revision, noted, learn}
+use Rattle.connector_core.specs.Keeps.{Keeps, Revisions, Versions}
+use Rattle.connector_core.specs.Learning.{or_fault, fault_unless, Finding, Shows, Shows_none, Taken, Stale, fit, fits_id, sighted, is_wanted, or_no_revision, shown_revision, fit_differing, differing, agreeing, compared, shown_lesson, lesson, finding, subject, content_revision, noted, learn}
 use Rattle.connector_core.specs.declared.knowledge.Known.{Known}
 use Rattle.connector_core.specs.declared.learning.LearnFault.{LearnFault}
 use Rattle.connector_core.specs.declared.learning.LearnFault.TheVariants.{Unfit, Unversioned, NoSuchRecord}
 use Rattle.world_model.specs.World.{World}
-use Rattle.world_model.specs.Safe.{IsAt, Has}
-use Rattle.world_model.proofs.Lists.{last_has, has_last}
+use Rattle.world_model.specs.Safe.{IsAt, id_in}
+use Rattle.world_model.proofs.Lists.{has_last}
+use Rattle.provider_core.specs.Stories.{Entry}
+use Rattle.world_model.proofs.Hearing.{name_with, revision_with}
 use Rattle.world_model.proofs.Growing.{id_at}
 use Rattle.world_model.proofs.Invariant.{compares_of}
 use Rattle.world_model.proofs.Learned.{differing_within, differing_named, at_tag, at_within, at_revision, at_id, at_name, taught, told, told_of, shows_first}
 use Rattle.world_model.proofs.Answering.{Answers}
-use Rattle.world_model.proofs.Ranking.{record_ours}
-use Rattle.world_model.specs.Invariant.{Names, InvariantOf, ShowsTruly}
+use Rattle.world_model.specs.Invariant.{Names, InvariantAt, InvariantOf, ShowsTruly, StandsAt, StandsFor}
 
 -- ---- steps that all come to an end
 
@@ -88,42 +90,73 @@ wanted_last : (o : Option Known) (last : Row) → option_map (λ k. k.wanted) o 
 wanted_last None last is = absurd (cc)
 wanted_last (Some known) last is = (known, refl, cc)
 
-module _ {ours : Names} (w : World) (inv : InvariantOf ours w) (name : RecordName) (known : Known) (in_book : w.book name ≡ Some known) (last : last_or None (rows_of w.history name) ≡ Some known.wanted) where
-  -- a fact about the record fits what is known about it
-  fact_fits : (s : ShownRecord) → IsFact w.entries s → content_name s.content ≡ name → IsOk (fit name known s)
-  fact_fits s fact named =
+-- what is shown of a record with this id: a tag, and a revision up to the wanted one
+record Usable (es : List Entry) (name : RecordName) (known : Known) (s : ShownRecord) : Type 0 where
+  its : id_in es name ≡ Some s.id
+  revision : RevisionValue
+  has : content_revision s.content ≡ Some revision
+  up : revision ≼ row_revision known.wanted
+  tag : List ℕ
+  tagged : s.version ≡ Some tag
+
+module _ {keeps : Keeps} {ours : Names} (w : World) (inv : InvariantAt keeps ours w) (name : RecordName) (known : Known) (in_book : w.book name ≡ Some known) where
+  fact_usable : (s : ShownRecord) → IsFact w.entries s → content_name s.content ≡ name → Usable w.entries name known s
+  fact_usable s fact named =
       let of_record : fact.entry.name ≡ name = sym (inv.kept.whole.named fact.place fact.turn fact.entry s.content fact.here fact.held) ∙ named in
-      let mine : ours fact.entry.name ≡ true = ap ours of_record ∙ record_ours ours w.history inv.mine name known.wanted (last_has (rows_of w.history name) known.wanted last) in
-      let image = inv.kept.imaged fact.place fact.turn fact.entry s.content fact.here mine fact.held in
-      let accepted : Has (rows_of w.history name) image.row = subst (λ (n : RecordName). Has (rows_of w.history n) image.row) of_record image.accepted in
-      let up = each_up_to (rows_of w.history name) accepted.0 image.row known.wanted (inv.rising name) accepted.1 last in
-      let its = id_at w.entries name fact.place fact.entry inv.kept.whole fact.here of_record in
-      fit_ok name known s (row_revision image.row) (version_tag (suc fact.turn)) (same_if_eq name (content_name s.content) (sym named))
-      (fits known.id s.id (λ k is. same_id k s.id (sym ((inv.noted name known in_book).id k is) ∙ its ∙ ap Some (sym fact.id)))) image.revision (not_from_false _ up) fact.version
+      let (revision, has, up) = (compares_of w inv name known in_book).up s fact (sym named) in
+      record {
+        its = id_at w.entries name fact.place fact.entry inv.kept.whole fact.here of_record ∙ ap Some (sym fact.id);
+        revision = revision;
+        has = has;
+        up = up;
+        tag = version_tag (suc fact.turn);
+        tagged = fact.version;
+      }
 
-  -- so does one that isn't as it is wanted
-  differing_fits : (s : ShownRecord) → IsFact w.entries s → content_name s.content ≡ name → is_wanted w.book known s.content ≡ false → IsOk (fit_differing name known s)
-  differing_fits s fact named other =
-      let (r, has, lower) = (compares_of w inv name known in_book).below s fact (sym named) other in
-      let up : shown_revision s.content ≼ row_revision known.wanted = subst (λ (x : RevisionValue). x ≼ row_revision known.wanted) (sym (ap or_no_revision has)) (up_to_before r (row_revision known.wanted) lower) in
-      ok_after (fault_unless Unfit (same_name name (content_name s.content))) (differing_named known s) true
-      (passes Unfit (same_name name (content_name s.content)) (same_if_eq name (content_name s.content) (sym named)))
-      (ok_after (fault_unless Unfit (not (before (row_revision known.wanted) (shown_revision s.content)))) (differing_within s) true
-      (passes Unfit (not (before (row_revision known.wanted) (shown_revision s.content))) (not_from_false _ up))
-      (ok_after (or_fault Unversioned s.version) (at_tag s (shown_revision s.content)) (version_tag (suc fact.turn)) (is_there Unversioned s.version (version_tag (suc fact.turn)) fact.version) refl))
+  stands_usable : (s : ShownRecord) → StandsFor w.entries s → content_name s.content ≡ name → Usable w.entries name known s
+  stands_usable s st named = elim st.stands [
+    | inl same ↦ subst (λ (x : ShownRecord). Usable w.entries name known x) (sym same) (fact_usable st.true_one st.fact (ap (λ x. content_name x.content) (sym same) ∙ named))
+    | inr same ↦
+        let t = st.true_one in
+        let u = fact_usable t st.fact (sym (ap (λ x. content_name x.content) same ∙ name_with (Some no_revision) t.content) ∙ named) in
+        subst (λ (x : ShownRecord). Usable w.entries name known x) (sym same)
+        (record { its = u.its; revision = no_revision; has = revision_with (Some no_revision) t.content; up = none_first (row_revision known.wanted); tag = u.tag; tagged = u.tagged })
+  ]
 
-  compared_ok : (s : ShownRecord) → IsFact w.entries s → content_name s.content ≡ name → (wanted : Bool) → is_wanted w.book known s.content ≡ wanted → IsOk (compared wanted name known s)
-  compared_ok s fact named true test =
-      ok_after (or_fault Unversioned s.version) (λ tag. Ok (agreeing known s.id tag)) (version_tag (suc fact.turn)) (is_there Unversioned s.version (version_tag (suc fact.turn)) fact.version) refl
-  compared_ok s fact named false test = ok_whatever (fit_differing name known s) (λ sight. Ok (differing known sight)) (differing_fits s fact named test) (λ sight. refl)
+  usable : (kind : Keeps) (s : ShownRecord) → StandsAt kind w.entries s → content_name s.content ≡ name → Usable w.entries name known s
+  usable Revisions s fact named = fact_usable s fact named
+  usable Versions s stands named = stands_usable s stands named
 
-  shown_ok : (s : ShownRecord) → IsFact w.entries s → content_name s.content ≡ name → (doubted : Bool)
-      → IsOk (cond doubted (compared (is_wanted w.book known s.content) name known s) (fit name known s >>= λ sight. Ok (sighted known sight)))
-  shown_ok s fact named true = compared_ok s fact named (is_wanted w.book known s.content) refl
-  shown_ok s fact named false = ok_whatever (fit name known s) (λ sight. Ok (sighted known sight)) (fact_fits s fact named) (λ sight. refl)
+  module _ (s : ShownRecord) (u : Usable w.entries name known s) (named : content_name s.content ≡ name) where
+    -- it fits what is known about the record
+    usable_fits : IsOk (fit name known s)
+    usable_fits = fit_ok name known s u.revision u.tag (same_if_eq name (content_name s.content) (sym named))
+        (fits known.id s.id (λ k is. same_id k s.id (sym ((inv.noted name known in_book).id k is) ∙ u.its))) u.has (not_from_false _ u.up) u.tagged
 
-  lesson_ok : (said : Finding) → ((s : ShownRecord) → said ≡ Shows s → IsFact w.entries s × (content_name s.content ≡ name)) → IsOk (lesson w.book name known said)
-  lesson_ok (Shows s) shown = let facts = shown s refl in shown_ok s facts.0 facts.1 known.is_doubted
+    -- so it does if it isn't as it is wanted
+    differing_fits : IsOk (fit_differing name known s)
+    differing_fits =
+        let up : shown_revision s.content ≼ row_revision known.wanted = subst (λ (x : RevisionValue). x ≼ row_revision known.wanted) (sym (ap or_no_revision u.has)) u.up in
+        ok_after (fault_unless Unfit (same_name name (content_name s.content))) (differing_named known s) true
+        (passes Unfit (same_name name (content_name s.content)) (same_if_eq name (content_name s.content) (sym named)))
+        (ok_after (fault_unless Unfit (not (before (row_revision known.wanted) (shown_revision s.content)))) (differing_within s) true
+        (passes Unfit (not (before (row_revision known.wanted) (shown_revision s.content))) (not_from_false _ up))
+        (ok_after (or_fault Unversioned s.version) (at_tag s (shown_revision s.content)) u.tag (is_there Unversioned s.version u.tag u.tagged) refl))
+
+    compared_ok : (wanted : Bool) → IsOk (compared wanted name known s)
+    compared_ok true = ok_after (or_fault Unversioned s.version) (λ tag. Ok (agreeing known s.id tag)) u.tag (is_there Unversioned s.version u.tag u.tagged) refl
+    compared_ok false = ok_whatever (fit_differing name known s) (λ sight. Ok (differing known sight)) differing_fits (λ sight. refl)
+
+    learnt_ok : (doubted : Bool) → IsOk (cond doubted (compared (is_wanted w.book known s.content) name known s) (fit name known s >>= λ sight. Ok (sighted known sight)))
+    learnt_ok true = compared_ok (is_wanted w.book known s.content)
+    learnt_ok false = ok_whatever (fit name known s) (λ sight. Ok (sighted known sight)) usable_fits (λ sight. refl)
+
+  -- the connector learns from a resource of the record that stands for a version
+  pub shown_ok : (s : ShownRecord) → StandsAt keeps w.entries s → content_name s.content ≡ name → IsOk (shown_lesson w.book name known s)
+  shown_ok s stands named = learnt_ok s (usable keeps s stands named) named known.is_doubted
+
+  lesson_ok : (said : Finding) → ((s : ShownRecord) → said ≡ Shows s → StandsAt keeps w.entries s × (content_name s.content ≡ name)) → IsOk (lesson w.book name known said)
+  lesson_ok (Shows s) shown = let facts = shown s refl in shown_ok s facts.0 facts.1
   lesson_ok Shows_none shown = refl
   lesson_ok Taken shown = refl
   lesson_ok (Stale if_match) shown = refl
@@ -136,4 +169,4 @@ learns w request answer inv shows a =
     (ok_after (or_fault NoSuchRecord (w.book a.name)) (told w.book request answer a.name) known (is_there NoSuchRecord (w.book a.name) known in_book)
     (ok_after (finding request answer) (taught w.book a.name known) a.said a.says.says
     (ok_whatever (lesson w.book a.name known a.said) (λ l. Ok (noted w.book a.name l))
-    (lesson_ok w inv a.name known in_book (is_last ∙ ap Some (sym wanted)) a.said (λ s is. (shows 0 s (shows_first request answer s (a.says.says ∙ ap Ok is)), a.says.its s is))) (λ l. refl))))
+    (lesson_ok w inv a.name known in_book a.said (λ s is. (shows 0 s (shows_first request answer s (a.says.says ∙ ap Ok is)), a.says.its s is))) (λ l. refl))))

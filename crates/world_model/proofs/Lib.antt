@@ -12,6 +12,8 @@ pub mod Learned
 pub mod Accepting
 pub mod Sending
 pub mod Making
+pub mod Hearing
+pub mod Forgetting
 pub mod Noting
 pub mod Invariant
 pub mod Safety
@@ -36,6 +38,8 @@ pub mod Meanwhile
 pub mod Done
 pub mod Settling
 pub mod OneWay
+pub mod Unshown
+pub mod Confirming
 pub mod Alone
 pub mod Sharing
 pub mod InOrder
@@ -46,3 +50,7 @@ pub mod Healed
 pub mod Durable
 pub mod Lasting
 pub mod Rechecked
+pub mod Current
+pub mod Faring
+pub mod Resetting
+pub mod Starting

@@ -25,13 +25,16 @@ use Rattle.connector_core.specs.declared.asking.Ask.{Ask}
 use Rattle.connector_core.specs.declared.asking.Ask.TheVariants.{Nothing, Waits, Send}
 use Rattle.connector_core.specs.declared.knowledge.Known.{Known}
 use Rattle.connector_core.specs.declared.learning.LearnFault.{LearnFault}
+use Rattle.connector_core.specs.Keeps.{Keeps, heard}
 use Rattle.connector_core.specs.Learning.{Finding, absent, nothing_new, none_sighted, forgetting, is_absent, is_under, Lesson, Learning, learn, after_learning}
 use Rattle.connector_core.specs.declared.changing.ChangeFault.{ChangeFault}
 use Rattle.connector_core.specs.Changing.{history_after, book_after}
+use Rattle.world_model.proofs.Hearing.{by_hearing}
 use Rattle.world_model.proofs.Learned.{LearnsShown, LearnsShown.sees, LearnsShown.agrees, LearnsShown.differs, Learns, Learns.shows, Learns.misses, Learns.is_taken, Learns.is_stale, learnt_by}
 use Rattle.world_model.specs.World.{World, Message, Asked, Answered, Event, Changes, Sends, Delivers, Cuts, Restarts_provider, Restarts_connector, Doubts, sends, delivers, message_at, happens, empty, judged, run}
 use Rattle.world_model.specs.Safe.{IsPrefixOf, Onward, AlwaysOnward}
-use Rattle.world_model.specs.Others.{Act, Ours, Theirs, acts, run_among, AlwaysOnwardAmong}
+use Rattle.world_model.specs.Providers.{answered, delivers_at, happens_at, run_at, AlwaysOnwardAt}
+use Rattle.world_model.specs.Others.{Act, Ours, Theirs, acts, acts_at, run_among, run_among_at, AlwaysOnwardAmong}
 
 -- ---- lists
 
@@ -203,6 +206,44 @@ run-append w (event ∷ early) late = run-append (happens w event) early late
 pub always_onward : AlwaysOnward
 always_onward early late = subst (Onward (run empty early)) (sym (run-append empty early late)) (run_on (run empty early) late)
 
+-- ---- with each kind of provider
+
+delivers_on_at : (keeps : Keeps) (w : World) (o : Option Message) → Onward w (delivers_at keeps w o)
+delivers_on_at keeps w None = here_still w
+delivers_on_at keeps w (Some (Asked request)) = record {
+  rows = λ name. stays (rows_of w.history name);
+  stories = stories_only_grow w.entries request;
+  messages = (Answered request (answered keeps (step w.entries request).answer) ∷ [], refl);
+  confirmed = none_falls w.book;
+}
+delivers_on_at keeps w (Some (Answered request answer)) = record {
+  rows = λ name. stays (rows_of w.history name);
+  stories = go_on_staying w.entries;
+  messages = stays w.messages;
+  confirmed = by_hearing keeps (λ (b : Book). NoneFalls w.book b) w.book request answer (none_falls w.book) (learn_raises w.book request (heard keeps request answer));
+}
+
+pub event_on_at : (keeps : Keeps) (w : World) (event : Event) → Onward w (happens_at keeps w event)
+event_on_at keeps w (Changes row) = event_on w (Changes row)
+event_on_at keeps w (Sends name) = event_on w (Sends name)
+event_on_at keeps w (Delivers number) = delivers_on_at keeps w (message_at w.messages number)
+event_on_at keeps w (Cuts number length) = here_still w
+event_on_at keeps w Restarts_provider = here_still w
+event_on_at keeps w Restarts_connector = event_on w Restarts_connector
+event_on_at keeps w (Doubts name) = event_on w (Doubts name)
+
+pub run_on_at : (keeps : Keeps) (w : World) (events : List Event) → Onward w (run_at keeps w events)
+run_on_at keeps w [] = here_still w
+run_on_at keeps w (event ∷ events) =
+    and_on w (happens_at keeps w event) (run_at keeps (happens_at keeps w event) events) (event_on_at keeps w event) (run_on_at keeps (happens_at keeps w event) events)
+
+run-append-at : (keeps : Keeps) (w : World) (early late : List Event) → run_at keeps w (early ++ late) ≡ run_at keeps (run_at keeps w early) late
+run-append-at keeps w [] late = refl
+run-append-at keeps w (event ∷ early) late = run-append-at keeps (happens_at keeps w event) early late
+
+pub always_onward_at : AlwaysOnwardAt
+always_onward_at keeps early late = subst (Onward (run_at keeps empty early)) (sym (run-append-at keeps empty early late)) (run_on_at keeps (run_at keeps empty early) late)
+
 -- ---- every act
 
 pub act_on : (w : World) (act : Act) → Onward w (acts w act)
@@ -224,3 +265,21 @@ among-append w (act ∷ early) late = among-append (acts w act) early late
 
 pub always_onward_among : AlwaysOnwardAmong
 always_onward_among early late = subst (Onward (run_among empty early)) (sym (among-append empty early late)) (among_on (run_among empty early) late)
+
+-- with each kind of provider
+act_on_at : (keeps : Keeps) (w : World) (act : Act) → Onward w (acts_at keeps w act)
+act_on_at keeps w (Ours event) = event_on_at keeps w event
+act_on_at keeps w (Theirs request) = act_on w (Theirs request)
+
+among_on_at : (keeps : Keeps) (w : World) (later : List Act) → Onward w (run_among_at keeps w later)
+among_on_at keeps w [] = here_still w
+among_on_at keeps w (act ∷ later) =
+    and_on w (acts_at keeps w act) (run_among_at keeps (acts_at keeps w act) later) (act_on_at keeps w act) (among_on_at keeps (acts_at keeps w act) later)
+
+among-append-at : (keeps : Keeps) (w : World) (early late : List Act) → run_among_at keeps w (early ++ late) ≡ run_among_at keeps (run_among_at keeps w early) late
+among-append-at keeps w [] late = refl
+among-append-at keeps w (act ∷ early) late = among-append-at keeps (acts_at keeps w act) early late
+
+pub onward_among_at : (keeps : Keeps) (early late : List Act) → Onward (run_among_at keeps empty early) (run_among_at keeps empty (early ++ late))
+onward_among_at keeps early late =
+    subst (Onward (run_among_at keeps empty early)) (sym (among-append-at keeps empty early late)) (among_on_at keeps (run_among_at keeps empty early) late)

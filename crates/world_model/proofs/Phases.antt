@@ -9,7 +9,7 @@ use Rattle.scim_key.specs.declared.records.RecordName.{RecordName}
 use Rattle.scim_version.proofs.Versions.{has_version-alone}
 use Rattle.scim_version.specs.Conditions.{holds_match}
 use Rattle.scim_version.specs.Tags.{version_tag}
-use Rattle.scim_version.specs.declared.conditions.Condition.TheVariants.{Tags}
+use Rattle.scim_version.specs.declared.conditions.Condition.TheVariants.{Always, Tags}
 use Rattle.scim_resource.specs.Contents.{content_name}
 use Rattle.scim_resource.specs.Rows.{ShownRecord, shown, last_version}
 use Rattle.scim_resource.specs.declared.contents.Content.{Content}
@@ -17,10 +17,11 @@ use Rattle.scim_message.specs.declared.messages.Request.{Request}
 use Rattle.scim_message.specs.declared.messages.Request.TheVariants.{Create}
 use Rattle.provider_core.specs.Stories.{Entry, story, Numbered, row_of, step}
 use Rattle.provider_core.specs.Tables.{entry_named}
-use Rattle.provider_core.proofs.TableLaws.{named_found}
+use Rattle.provider_core.proofs.TableLaws.{held_at, named_found}
 use Rattle.source_csv.specs.Records.{IsRow, row_name, row_revision}
 use Rattle.connector_core.specs.History.{rows_of, last_row}
 use Rattle.connector_core.specs.Asking.{asking, is_done, request_for, search_for, replacement}
+use Rattle.connector_core.specs.Keeps.{Keeps, Revisions, Versions}
 use Rattle.connector_core.specs.Learning.{Shows_none, Taken, Stale, subject, Lesson, Sight, seen_at, sighted, differing, is_wanted, none_sighted, forgetting, is_absent, is_under, content_revision}
 use Rattle.connector_core.specs.declared.asking.Ask.TheVariants.{Send}
 use Rattle.connector_core.specs.declared.knowledge.Known.{Known}
@@ -31,15 +32,17 @@ use Rattle.world_model.specs.World.{World, names}
 use Rattle.world_model.specs.Room.{HasRoom}
 use Rattle.world_model.proofs.Answering.{below_last}
 use Rattle.world_model.proofs.Asked.{IsDone, done_if, later_top, HasImage, image_named, image_revised, asked}
+use Rattle.world_model.proofs.Counting.{Counted}
 use Rattle.world_model.proofs.Exchanging.{answer_to}
 use Rattle.world_model.proofs.Finding.{Finds, Finds.finds, Finds.lacks, search_finds, search_keeps, Creates, Creates.creates, Creates.meets, create_answers, Replaces, Replaces.renews, Replaces.misses, replace_answers}
 use Rattle.world_model.proofs.Comparing.{image_wanted}
+use Rattle.world_model.proofs.Hearing.{hearing, hearing_version, hearing_name, hearing_created, hearing_replaced}
 use Rattle.world_model.proofs.Leading.{Leads, leads_to, seen_in}
 use Rattle.world_model.proofs.Learned.{LearnsShown, LearnsShown.sees, LearnsShown.agrees, LearnsShown.differs}
 use Rattle.world_model.proofs.Lists.{last_has}
-use Rattle.world_model.specs.Invariant.{Names, Noted}
+use Rattle.world_model.specs.Invariant.{Names, InSightAt, InvariantAt, NotedAt}
 use Rattle.world_model.proofs.Quiet.{QuietAmong, row_counted, few_entries}
-use Rattle.world_model.proofs.Ranking.{row_lawful, record_ours, versions_few_of}
+use Rattle.world_model.proofs.Ranking.{AllLawful, row_lawful, record_ours, versions_few_of}
 use Rattle.world_model.proofs.Room.{Lacks, free_place}
 use Rattle.world_model.proofs.Searched.{search_subject}
 use Rattle.world_model.proofs.Sending.{row_of_record}
@@ -56,11 +59,26 @@ pub data Goes (es : List Entry) (name : RecordName) (known : Known) (fs : List E
   nears : known.seen ≡ Unknown → Near fs name now → Goes es name known fs now
   forgets : now.seen ≡ Unknown → (known.seen ≡ Unknown → ⊥) → (Near es name known → ⊥) → Goes es name known fs now
 
-pub record Advance (w : World) (name : RecordName) (known : Known) : Type 0 where
+pub record Advance (keeps : Keeps) (w : World) (name : RecordName) (known : Known) : Type 0 where
   pub now : Known
   pub request : Request
-  pub leads : Leads w name request now
+  pub leads : Leads keeps w name request now
   pub goes : Goes w.entries name known (step w.entries request).entries now
+
+-- what an exchange rests on, with each kind of provider
+pub record SoundAt (keeps : Keeps) (ours : Names) (w : World) : Type 0 where
+  pub inv : InvariantAt keeps ours w
+  pub lawful : AllLawful w.history
+  pub counted : Counted w.history
+  pub short : (i : ℕ) (e : Entry) → IsAt w.entries i e → ours e.name ≡ true → length (story e) < last_version
+
+pub sound_of : {ours : Names} (w : World) → QuietAmong ours w → SoundAt Revisions ours w
+sound_of w q = record {
+  inv = q.inv;
+  lawful = q.lawful;
+  counted = q.counted;
+  short = λ i e at mine. below_last (length (story e)) (versions_few_of w.history w.entries q.inv.kept q.lawful i e at mine);
+}
 
 -- a record with a known id has an entry
 id_entry : (es : List Entry) (name : RecordName) (id : List ℕ) → id_in es name ≡ Some id → Lacks es name → ⊥
@@ -81,7 +99,7 @@ current_holds e tag short is =
     let P : List ℕ → Type 0 = λ t. holds_match (Tags (t ∷ [])) (Some (length (story e))) ≡ true in
     subst P (sym is) ((has_version-alone (suc (length e.earlier)) (length (story e)) (omega (arith, short, count)) (omega (arith, short))).1 count)
 
-module _ {ours : Names} (w : World) (q : QuietAmong ours w) (name : RecordName) (known : Known) (in_book : w.book name ≡ Some known) where
+module _ {keeps : Keeps} {ours : Names} (w : World) (q : SoundAt keeps ours w) (name : RecordName) (known : Known) (in_book : w.book name ≡ Some known) where
   pub is_last : last_row w.history name ≡ Some known.wanted
   is_last = sym (q.inv.follows name) ∙ ap (option_map (λ k. k.wanted)) in_book
 
@@ -98,7 +116,7 @@ module _ {ours : Names} (w : World) (q : QuietAmong ours w) (name : RecordName) 
   pub its_ours : ours name ≡ true
   its_ours = record_ours ours w.history q.inv.mine name known.wanted accepted
 
-  noted : Noted w.entries name known
+  noted : NotedAt keeps w.entries name known
   noted = q.inv.noted name known in_book
 
   -- the wanted revision in sight is confirmed
@@ -106,11 +124,15 @@ module _ {ours : Names} (w : World) (q : QuietAmong ours w) (name : RecordName) 
   sight_ends sight same =
       done_if (sighted known sight).known refl (ap (later known.confirmed) same ∙ later_top known.confirmed (row_revision known.wanted) noted.within)
 
-module _ {ours : Names} (w : World) (room : HasRoom w) (q : QuietAmong ours w) (name : RecordName) (known : Known) (in_book : w.book name ≡ Some known) where
+version_seen : (keeps : Keeps) (es : List Entry) (name : RecordName) (known : Known) (id tag : List ℕ) (r : RevisionValue) → InSightAt keeps es name known id tag r → (held : RevisionValue) × IsVersion es name id tag held
+version_seen Revisions es name known id tag r sight = (r, sight.version)
+version_seen Versions es name known id tag r sight = (sight.held, sight.version)
+
+module _ {keeps : Keeps} {ours : Names} (w : World) (room : HasRoom w) (q : SoundAt keeps ours w) (name : RecordName) (known : Known) (in_book : w.book name ≡ Some known) where
   law : IsRow known.wanted
   law = its_law w q name known in_book
 
-  truth : Noted w.entries name known
+  truth : NotedAt keeps w.entries name known
   truth = noted w q name known in_book
 
   -- ---- nothing was seen
@@ -124,26 +146,28 @@ module _ {ours : Names} (w : World) (room : HasRoom w) (q : QuietAmong ours w) (
         let near : Near w.entries name now = at_current i e sight.id sight.revision at named (is_seen ∙ ap (λ (t : List ℕ). At sight.id t sight.revision) tag) in
         nears unknown (subst (λ (es : List Entry). Near es name now) (sym (search_keeps w.entries known.wanted)) near)
 
-    found_goes : {l : Lesson} → LearnsShown w.book name known (shown (row_of (suc i) e)) l → Goes w.entries name known (step w.entries (search_for known.wanted)).entries l.known
-    found_goes (sees sight fits) = current (sighted known sight).known sight fits.tag refl
-    found_goes (agrees tag wanted tagged) = ends (sight_ends w q name known in_book (record { id = id_text (suc i); revision = row_revision known.wanted; tag = tag }) refl)
-    found_goes (differs sight d) = current (differing known sight).known sight d.tag refl
+    found_goes : (s : ShownRecord) {l : Lesson} → s.version ≡ Some (version_tag (suc (length e.earlier))) → LearnsShown w.book name known s l
+        → Goes w.entries name known (step w.entries (search_for known.wanted)).entries l.known
+    found_goes s tags (sees sight fits) = current (sighted known sight).known sight (sym tags ∙ fits.tag) refl
+    found_goes s tags (agrees tag wanted tagged) = ends (sight_ends w q name known in_book (record { id = s.id; revision = row_revision known.wanted; tag = tag }) refl)
+    found_goes s tags (differs sight d) = current (differing known sight).known sight (sym tags ∙ d.tag) refl
 
   found : known.seen ≡ Unknown → asking w.book name ≡ Some (Send (search_for known.wanted))
-      → Finds w.entries name (search_for known.wanted) (answer_to w (search_for known.wanted)) → Advance w name known
+      → Finds w.entries name (search_for known.wanted) (answer_to w (search_for known.wanted)) → Advance keeps w name known
   found unknown asks (finds i e at named says) =
       let request = search_for known.wanted in
       let s = shown (row_of (suc i) e) in
       let about : subject request ≡ Some name = search_subject known.wanted law ∙ ap Some (its_name w q name known in_book) in
-      let seen = seen_in w room q name known request s asks about in_book says in
-      record { now = seen.lesson.known; request = request; leads = seen.leads; goes = found_goes unknown i e at named seen.learns }
+      let shows : content_name s.content ≡ name = q.inv.kept.whole.named i (length e.earlier) e e.held at (held_at e) ∙ named in
+      let seen = seen_in keeps w q.inv name known request s asks about in_book says (hearing_name keeps known.wanted s ∙ shows) in
+      record { now = seen.lesson.known; request = request; leads = seen.leads; goes = found_goes unknown i e at named (hearing keeps request s) (hearing_version keeps request s) seen.learns }
   found unknown asks (lacks none says) =
       let request = search_for known.wanted in
       let about : subject request ≡ Some name = search_subject known.wanted law ∙ ap Some (its_name w q name known in_book) in
-      let after = leads_to w room q name known request Shows_none asks about in_book says (none_sighted known.id known).known refl in
+      let after = leads_to keeps w name known request Shows_none asks about in_book says (none_sighted known.id known).known refl in
       go known.id refl after
     where
-      go : (id : Option (List ℕ)) → known.id ≡ id → Leads w name (search_for known.wanted) (none_sighted id known).known → Advance w name known
+      go : (id : Option (List ℕ)) → known.id ≡ id → Leads keeps w name (search_for known.wanted) (none_sighted id known).known → Advance keeps w name known
       go None is leads = record {
         now = (none_sighted None known).known;
         request = search_for known.wanted;
@@ -169,16 +193,17 @@ module _ {ours : Names} (w : World) (room : HasRoom w) (q : QuietAmong ours w) (
         let clash : true ≡ false = sym test ∙ d.other in
         absurd (cc)
 
-    made : HasImage w.book known content → known.seen ≡ Absent → asking w.book name ≡ Some (Send (Create content)) → Creates w.entries content (answer_to w (Create content)) → Advance w name known
+    made : HasImage w.book known content → known.seen ≡ Absent → asking w.book name ≡ Some (Send (Create content)) → Creates w.entries content (answer_to w (Create content)) → Advance keeps w name known
     made has absent asks (creates s same says) =
-        let seen = seen_in w room q name known (Create content) s asks (ap Some named) in_book says in
-        record { now = seen.lesson.known; request = Create content; leads = seen.leads; goes = ends (image_ends s has same seen.learns) }
+        let is = hearing_created keeps content s same in
+        let seen = seen_in keeps w q.inv name known (Create content) s asks (ap Some named) in_book says (ap content_name is ∙ named) in
+        record { now = seen.lesson.known; request = Create content; leads = seen.leads; goes = ends (image_ends (hearing keeps (Create content) s) has is seen.learns) }
     made has absent asks (meets i e at e_named says) =
         let now = (forgetting (is_absent known.seen) known).known in
         record {
           now = now;
           request = Create content;
-          leads = leads_to w room q name known (Create content) Taken asks (ap Some named) in_book says now refl;
+          leads = leads_to keeps w name known (Create content) Taken asks (ap Some named) in_book says now refl;
           goes = forgets (ap (λ (s : Seen). (forgetting (is_absent s) known).known.seen) absent) (λ unknown. absurd (cc)) not_near;
         }
       where
@@ -188,10 +213,10 @@ module _ {ours : Names} (w : World) (room : HasRoom w) (q : QuietAmong ours w) (
 
     -- ---- the record was seen at a version
 
-    module _ (has : HasImage w.book known content) (id tag : List ℕ) (revision : RevisionValue) (is_seen : known.seen ≡ At id tag revision) (v : IsVersion w.entries name id tag revision)
+    module _ (has : HasImage w.book known content) (id tag : List ℕ) (revision held : RevisionValue) (is_seen : known.seen ≡ At id tag revision) (v : IsVersion w.entries name id tag held)
         (asks : asking w.book name ≡ Some (Send (replacement id tag content))) where
       short : length (story v.entry) < last_version
-      short = below_last (length (story v.entry)) (versions_few_of w.history w.entries q.inv.kept q.lawful v.place v.entry v.here (ap ours v.of_record ∙ its_ours w q name known in_book))
+      short = q.short v.place v.entry v.here (ap ours v.of_record ∙ its_ours w q name known in_book)
 
       stale_not_near : holds_match (Tags (tag ∷ [])) (Some (length (story v.entry))) ≡ false → Near w.entries name known → ⊥
       stale_not_near fails (truly_absent is none) = absurd (cc)
@@ -204,18 +229,19 @@ module _ {ours : Names} (w : World) (room : HasRoom w) (q : QuietAmong ours w) (
           let holds = current_holds v.entry tag short (tags ∙ ap (λ (e : Entry). version_tag (suc (length e.earlier))) same) in
           absurd (cc)
 
-      written : Replaces (replacement id tag content) (Tags (tag ∷ [])) content v.entry (answer_to w (replacement id tag content)) → Advance w name known
+      written : Replaces (replacement id tag content) (Tags (tag ∷ [])) content v.entry (answer_to w (replacement id tag content)) → Advance keeps w name known
       written (renews s same says) =
           let request = replacement id tag content in
-          let seen = seen_in w room q name known request s asks (ap Some named) in_book says in
-          record { now = seen.lesson.known; request = request; leads = seen.leads; goes = ends (image_ends s has same seen.learns) }
+          let is = hearing_replaced keeps id content (Tags (tag ∷ [])) Always s same in
+          let seen = seen_in keeps w q.inv name known request s asks (ap Some named) in_book says (ap content_name is ∙ named) in
+          record { now = seen.lesson.known; request = request; leads = seen.leads; goes = ends (image_ends (hearing keeps request s) has is seen.learns) }
       written (misses fails says) =
           let request = replacement id tag content in
           let now = (forgetting (is_under (Tags (tag ∷ [])) known.seen) known).known in
           record {
             now = now;
             request = request;
-            leads = leads_to w room q name known request (Stale (Tags (tag ∷ []))) asks (ap Some named) in_book says now refl;
+            leads = leads_to keeps w name known request (Stale (Tags (tag ∷ []))) asks (ap Some named) in_book says now refl;
             goes = forgets
                 (ap (λ (s : Seen). (forgetting (is_under (Tags (tag ∷ [])) s) known).known.seen) is_seen
                 ∙ ap (λ (b : Bool). (forgetting b known).known.seen) (alone_under id tag revision))
@@ -235,16 +261,16 @@ module _ {ours : Names} (w : World) (room : HasRoom w) (q : QuietAmong ours w) (
     its_place : Has (names w) name
     its_place = row_counted w.history q.counted name known.wanted (accepted w q name known in_book)
 
-    by_seen : (seen : Seen) → known.seen ≡ seen → asking w.book name ≡ Some (Send (request_for seen known.wanted content)) → Advance w name known
+    by_seen : (seen : Seen) → known.seen ≡ seen → asking w.book name ≡ Some (Send (request_for seen known.wanted content)) → Advance keeps w name known
     by_seen Unknown is_seen asks =
         found is_seen asks (subst (λ (n : RecordName). Finds w.entries n (search_for known.wanted) (answer_to w (search_for known.wanted))) (its_name w q name known in_book)
         (search_finds w.entries known.wanted law q.inv.kept.whole))
     by_seen Absent is_seen asks = made content its_content its_revision has is_seen asks (create_answers w.entries content (λ lacks. free_place w room (content_name content) (subst (λ (n : RecordName). Has (names w) n) (sym its_content) its_place) lacks))
     by_seen (At id tag revision) is_seen asks =
-        let v = (truth.seen id tag revision is_seen).version in
-        written content its_content its_revision has id tag revision is_seen v asks
+        let (held, v) = version_seen keeps w.entries name known id tag revision (truth.seen id tag revision is_seen) in
+        written content its_content its_revision has id tag revision held is_seen v asks
         (replace_answers w.entries v.place v.entry id content (Tags (tag ∷ [])) (few_entries w room) v.here v.has_id (v.of_record ∙ sym its_content)
-        (short content its_content its_revision has id tag revision is_seen v asks))
+        (short content its_content its_revision has id tag revision held is_seen v asks))
 
-    pub one_exchange : Advance w name known
+    pub one_exchange : Advance keeps w name known
     one_exchange = by_seen known.seen refl (asked w.book name known content in_book undone has)

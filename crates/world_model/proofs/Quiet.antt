@@ -43,7 +43,7 @@ use Rattle.world_model.proofs.Room.{room_was_there, free_place, places_few}
 use Rattle.world_model.proofs.Sizes.{image_size}
 use Rattle.world_model.proofs.Answering.{Answers, HasPlaces, request_answers, no_limit}
 use Rattle.world_model.proofs.Learning.{learns}
-use Rattle.world_model.specs.Invariant.{Names, all_names, InvariantOf, AskedTruly}
+use Rattle.world_model.specs.Invariant.{Names, all_names, Follows, InvariantOf, AskedTruly}
 use Rattle.world_model.proofs.Invariant.{act_inv, all_of_ours, none_inv, message_there}
 
 abbrev AllAnswered : History → List Message → Type 0
@@ -131,18 +131,18 @@ limited_room no_room row (Err faults.Differs) is = absurd (cc)
 limited_room no_room row (Err (faults.NoSuchMember place)) is = absurd (cc)
 
 -- a new row is of a record that is there, or there is room for its record
-room_for : {ours : Names} (w : World) (row : Row) → QuietAmong ours w → judged w row ≡ Ok verdicts.New → Has (names_of w.history) (row_name row) ⊎ (is_full (row_name row).kind (names_of w.history) ≡ false)
-room_for w row q is = go (last_row w.history (row_name row)) refl
+pub room_for : (w : World) (row : Row) → Follows w.book w.history → Counted w.history → judged w row ≡ Ok verdicts.New → Has (names_of w.history) (row_name row) ⊎ (is_full (row_name row).kind (names_of w.history) ≡ false)
+room_for w row follows counted is = go (last_row w.history (row_name row)) refl
   where
     room : (is_none (last_row w.history (row_name row)) && is_full (row_name row).kind (names_of w.history)) ≡ false
-    room = limited_room _ row (accepting w.history row) (sym (judged_by_source w row q.inv.follows) ∙ is)
+    room = limited_room _ row (accepting w.history row) (sym (judged_by_source w row follows) ∙ is)
 
     go : (o : Option Row) → last_row w.history (row_name row) ≡ o → Has (names_of w.history) (row_name row) ⊎ (is_full (row_name row).kind (names_of w.history) ≡ false)
     go None none = inr (ap (λ o. is_none o && is_full (row_name row).kind (names_of w.history)) (sym none) ∙ room)
     go (Some last) some =
-        inl (row_counted w.history q.counted (row_name row) last (last_has (rows_of w.history (row_name row)) last some))
+        inl (row_counted w.history counted (row_name row) last (last_has (rows_of w.history (row_name row)) last some))
 
-lawful_push : (history : History) (row : Row) → IsRow row → AllLawful history → AllLawful (history ++ row ∷ [])
+pub lawful_push : (history : History) (row : Row) → IsRow row → AllLawful history → AllLawful (history ++ row ∷ [])
 lawful_push history row law lawful i r at = elim (at_push history row i r at) [
   | inl old ↦ lawful i r old
   | inr new ↦ subst IsRow new.1 law
@@ -158,7 +158,7 @@ changes_quiet : {ours : Names} (w : World) (row : Row) (v : Result Verdict Chang
 changes_quiet w row (Ok verdicts.New) law q is inv = record {
   inv = inv;
   lawful = lawful_push w.history row law q.lawful;
-  counted = push_counted w.history row q.counted (room_for w row q is);
+  counted = push_counted w.history row q.counted (room_for w row q.inv.follows q.counted is);
   answered = answers_stay w.history row w.messages q.answered;
 }
 changes_quiet w row (Ok verdicts.Known) law q is inv = q

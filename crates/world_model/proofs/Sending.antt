@@ -22,6 +22,7 @@ use Rattle.connector_core.specs.Book.{Book, known_id}
 use Rattle.connector_core.specs.Asking.{asking, asking_of, asking_with, is_done, request_for, search_for, replacement}
 use Rattle.connector_core.specs.declared.asking.Ask.{Ask}
 use Rattle.connector_core.specs.declared.asking.Ask.TheVariants.{Nothing, Send}
+use Rattle.connector_core.specs.Keeps.{Keeps, Revisions, Versions}
 use Rattle.connector_core.specs.Learning.{content_revision}
 use Rattle.connector_core.specs.declared.knowledge.Known.{Known}
 use Rattle.connector_core.specs.declared.knowledge.Seen.{Seen}
@@ -30,7 +31,8 @@ use Rattle.world_model.specs.Safe.{Has, id_in, IsImage, IsVersion}
 use Rattle.world_model.proofs.Lists.{at_passes, last_has}
 use Rattle.world_model.proofs.Order.{at_most_before}
 use Rattle.world_model.proofs.Imaging.{image_name, image_revision, image_more}
-use Rattle.world_model.specs.Invariant.{Follows, InSight, AllNoted, AskedTruly}
+use Rattle.world_model.specs.Providers.{RisesAt}
+use Rattle.world_model.specs.Invariant.{Follows, InSight, InSightAt, AllNoted, AllNotedAt, AskedTruly, AskedTrulyAt}
 
 -- the rows of a record are of that record
 pub row_of_record : (history : History) (name : RecordName) (row : Row) → Has (rows_of history name) row → row_name row ≡ name
@@ -67,11 +69,11 @@ asked_of (Some known) f ask is = (known, refl, cc)
 pub wanted_of : (o : Option Known) (known : Known) → o ≡ Some known → option_map (λ k. k.wanted) o ≡ Some known.wanted
 wanted_of o known is = ap (option_map (λ k. k.wanted)) is
 
-search_asked : (history : History) (es : List Entry) (row : Row) → Has (rows_of history (row_name row)) row → AskedTruly history es (search_for row)
-search_asked history es (User row) has = record { row = User row; accepted = has; is = refl }
-search_asked history es (Group row) has = record { row = Group row; accepted = has; is = refl }
+search_asked : (keeps : Keeps) (history : History) (es : List Entry) (row : Row) → Has (rows_of history (row_name row)) row → AskedTrulyAt keeps history es (search_for row)
+search_asked keeps history es (User row) has = record { row = User row; accepted = has; is = refl }
+search_asked keeps history es (Group row) has = record { row = Group row; accepted = has; is = refl }
 
-module _ (history : History) (es : List Entry) (book : Book) (follows : Follows book history) (noted : AllNoted es book) where
+module _ (keeps : Keeps) (history : History) (es : List Entry) (book : Book) (follows : Follows book history) (noted : AllNotedAt keeps es book) where
   pub knows : GoesOn (known_id book) (id_in es)
   knows name id is = go (book name) refl is
     where
@@ -108,32 +110,44 @@ module _ (history : History) (es : List Entry) (book : Book) (follows : Follows 
       wanted_image = subst (λ (n : RecordName). IsImage history es n content) content_named is_image
 
       -- what is to be replaced is of a lower revision
-      lower : (id tag : List ℕ) (revision : RevisionValue) → is_done known ≡ false → InSight es name known id tag revision → (doubted : Bool) → known.is_doubted ≡ doubted
+      lower : (id tag : List ℕ) (revision : RevisionValue) → is_done known ≡ false → known.confirmed ≼ row_revision known.wanted → InSight es name known id tag revision → (doubted : Bool) → known.is_doubted ≡ doubted
           → revision ≺ row_revision known.wanted
-      lower id tag revision unsettled sight true doubted = sight.lower doubted
-      lower id tag revision unsettled sight false sure =
-          at_most_before revision known.confirmed (row_revision known.wanted) (sight.counted sure) (not_done known.confirmed (row_revision known.wanted) (noted name known in_book).within
+      lower id tag revision unsettled within sight true doubted = sight.lower doubted
+      lower id tag revision unsettled within sight false sure =
+          at_most_before revision known.confirmed (row_revision known.wanted) (sight.counted sure) (not_done known.confirmed (row_revision known.wanted) within
           (ap (λ (b : Bool). not b && same_revision known.confirmed (row_revision known.wanted)) (sym sure) ∙ unsettled))
 
-      overwrites : (id tag : List ℕ) (revision : RevisionValue) → is_done known ≡ false → InSight es name known id tag revision → AskedTruly history es (replacement id tag content)
-      overwrites id tag revision unsettled sight = record {
-        image = wanted_image;
-        tag = tag;
-        alone = refl;
-        older = revision;
-        newer = row_revision known.wanted;
-        version = subst (λ (n : RecordName). IsVersion es n id tag revision) content_named sight.version;
-        revision = at_revision;
-        rises = lower id tag revision unsettled sight known.is_doubted refl;
-      }
+      -- so it is, or it isn't higher where no revision is shown
+      rises : (kind : Keeps) (id tag : List ℕ) (revision : RevisionValue) → is_done known ≡ false → known.confirmed ≼ row_revision known.wanted → InSightAt kind es name known id tag revision
+          → (older : RevisionValue) × IsVersion es name id tag older × RisesAt kind older (row_revision known.wanted)
+      rises Revisions id tag revision unsettled within sight = (revision, sight.version, lower id tag revision unsettled within sight known.is_doubted refl)
+      rises Versions id tag revision unsettled within sight = (sight.held, sight.version, sight.up)
 
-      request_asked : (seen : Seen) → known.seen ≡ seen → is_done known ≡ false → AskedTruly history es (request_for seen known.wanted content)
-      request_asked Unknown is_seen unsettled = search_asked history es known.wanted wanted_there
+      overwrites : (id tag : List ℕ) (revision : RevisionValue) → is_done known ≡ false → InSightAt keeps es name known id tag revision → AskedTrulyAt keeps history es (replacement id tag content)
+      overwrites id tag revision unsettled sight =
+          let (older, version, up) = rises keeps id tag revision unsettled (noted name known in_book).within sight in
+          record {
+            image = wanted_image;
+            tag = tag;
+            alone = refl;
+            older = older;
+            newer = row_revision known.wanted;
+            version = subst (λ (n : RecordName). IsVersion es n id tag older) content_named version;
+            revision = at_revision;
+            rises = up;
+          }
+
+      request_asked : (seen : Seen) → known.seen ≡ seen → is_done known ≡ false → AskedTrulyAt keeps history es (request_for seen known.wanted content)
+      request_asked Unknown is_seen unsettled = search_asked keeps history es known.wanted wanted_there
       request_asked Absent is_seen unsettled = wanted_image
       request_asked (At id tag revision) is_seen unsettled = overwrites id tag revision unsettled ((noted name known in_book).seen id tag revision is_seen)
 
-  pub what_is_asked : (name : RecordName) (request : Request) → asking book name ≡ Some (Send request) → AskedTruly history es request
-  what_is_asked name request is =
+  pub what_is_asked_at : (name : RecordName) (request : Request) → asking book name ≡ Some (Send request) → AskedTrulyAt keeps history es request
+  what_is_asked_at name request is =
       let (known, in_book, asks) = asked_of (book name) (asking_of book) (Send request) is in
       let sends = sends_of book known (is_done known) (imaged (known_id book) known.wanted) request refl refl asks in
-      subst (λ (r : Request). AskedTruly history es r) sends.is (request_asked name known in_book sends.content sends.has_image known.seen refl sends.unsettled)
+      subst (λ (r : Request). AskedTrulyAt keeps history es r) sends.is (request_asked name known in_book sends.content sends.has_image known.seen refl sends.unsettled)
+
+pub what_is_asked : (history : History) (es : List Entry) (book : Book) → Follows book history → AllNoted es book → (name : RecordName) (request : Request) → asking book name ≡ Some (Send request)
+    → AskedTruly history es request
+what_is_asked = what_is_asked_at Revisions

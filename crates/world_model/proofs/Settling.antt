@@ -15,6 +15,7 @@ use Rattle.connector_core.specs.History.{MembersAreUsers, members_of, same_name,
 use Rattle.connector_core.specs.Asking.{is_done}
 use Rattle.connector_core.specs.Book.{Book, known_id, put}
 use Rattle.connector_core.specs.Changing.{names_of}
+use Rattle.connector_core.specs.Keeps.{Keeps, Revisions}
 use Rattle.connector_core.specs.declared.knowledge.Known.{Known}
 use Rattle.connector_core.specs.declared.knowledge.Seen.TheVariants.{Unknown}
 use Rattle.world_model.specs.Safe.{IsAt, Has}
@@ -24,42 +25,42 @@ use Rattle.world_model.specs.Others.{run_among}
 use Rattle.world_model.specs.Room.{Meanwhile, after_them, LeavesRoom, ExchangesAmong, TurnsAmong, SettlesFrom, SettlesAmong}
 use Rattle.world_model.specs.World.{World, empty, run}
 use Rattle.world_model.proofs.Asked.{IsDone, HasImage, user_imaged, members_imaged, asks_nothing}
-use Rattle.world_model.proofs.Calm.{CalmAmong, always_calm, calm_among, member_known, name_known}
+use Rattle.world_model.proofs.Calm.{CalmAmong, always_calm, calm_among, member_known_by, name_known}
 use Rattle.world_model.proofs.Counting.{InOrder, Comes, all_has}
 use Rattle.world_model.proofs.Done.{has_version, settled_of}
 use Rattle.world_model.proofs.Exchanging.{exchange_quiet, exchange_room}
 use Rattle.world_model.proofs.Meanwhile.{near_stays, same_history, same_book, still_calm}
-use Rattle.world_model.proofs.Phases.{Near, Near.truly_absent, Near.at_current, Goes, Goes.ends, Goes.nears, Goes.forgets, Advance, accepted, its_name, its_ours, one_exchange}
+use Rattle.world_model.proofs.Phases.{Near, Near.truly_absent, Near.at_current, Goes, Goes.ends, Goes.nears, Goes.forgets, Advance, SoundAt, sound_of, accepted, its_name, its_ours, one_exchange}
 use Rattle.world_model.proofs.Quiet.{row_counted}
 use Rattle.world_model.proofs.Ranking.{row_there}
 
 -- ---- which rows have images
 
 -- every user is done
-abbrev UsersDone : World → Type 0
+abbrev pub UsersDone : World → Type 0
 UsersDone w = (q : RecordName) (known : Known) → q.kind ≡ kinds.User → w.book q ≡ Some known → IsDone known
 
 -- a user is ready to be sent at all times, a group once every user is done
-abbrev IsReady : Kind → World → Type 0
+abbrev pub IsReady : Kind → World → Type 0
 IsReady kinds.User w = Unit {0}
 IsReady kinds.Group w = UsersDone w
 
-module _ {ours : Names} (w : World) (c : CalmAmong ours w) (name : RecordName) (known : Known) (in_book : w.book name ≡ Some known) where
+module _ {keeps : Keeps} {ours : Names} (w : World) (q : SoundAt keeps ours w) (members : MembersAreUsers w.history) (name : RecordName) (known : Known) (in_book : w.book name ≡ Some known) where
   member_id : UsersDone w → (i : ℕ) (key : List ℕ) → IsAt (members_of known.wanted) i key → (id : List ℕ) × (known_id w.book (user key) ≡ Some id)
   member_id users i key at =
-      let row = row_there w.history name known.wanted (accepted w c.quiet name known in_book) in
-      let (member, there) = member_known w c known.wanted row i key at in
-      let has = has_version w c.quiet (user key) member there (users (user key) member refl there) in
+      let row = row_there w.history name known.wanted (accepted w q name known in_book) in
+      let (member, there) = member_known_by w q.inv.follows members known.wanted row i key at in
+      let has = has_version w q (user key) member there (users (user key) member refl there) in
       (has.id, ap (option_and_then (λ k. k.id)) there ∙ has.known)
 
-  has_image : (kind : Kind) → name.kind ≡ kind → IsReady kind w → (content : Content) × HasImage w.book known content
-  has_image kinds.User is ready = user_imaged (known_id w.book) known.wanted (ap (λ n. n.kind) (its_name w c.quiet name known in_book) ∙ is)
+  pub has_image : (kind : Kind) → name.kind ≡ kind → IsReady kind w → (content : Content) × HasImage w.book known content
+  has_image kinds.User is ready = user_imaged (known_id w.book) known.wanted (ap (λ n. n.kind) (its_name w q name known in_book) ∙ is)
   has_image kinds.Group is ready = members_imaged (known_id w.book) known.wanted (member_id ready)
 
 -- ---- one record
 
 -- how far it is at most from done
-abbrev Phase : (left : ℕ) → List Entry → RecordName → Known → Type 0
+abbrev pub Phase : (left : ℕ) → List Entry → RecordName → Known → Type 0
 Phase zero es name known = IsDone known
 Phase (suc zero) es name known = IsDone known ⊎ Near es name known
 Phase (suc (suc zero)) es name known = (IsDone known ⊎ Near es name known) ⊎ (known.seen ≡ Unknown)
@@ -72,7 +73,7 @@ seen_near es name known (at_current i e id revision at named is) unknown = absur
 done_clash : (b : Bool) → b ≡ false → b ≡ true → ⊥
 done_clash b undone done = absurd (cc)
 
-next_phase : (left : ℕ) (es fs : List Entry) (name : RecordName) (known now : Known) → is_done known ≡ false → Phase (suc left) es name known → Goes es name known fs now
+pub next_phase : (left : ℕ) (es fs : List Entry) (name : RecordName) (known now : Known) → is_done known ≡ false → Phase (suc left) es name known → Goes es name known fs now
     → Phase left fs name now
 next_phase zero es fs name known now undone (inl done) goes = absurd (done_clash (is_done known) undone done)
 next_phase zero es fs name known now undone (inr near) (ends done) = done
@@ -98,9 +99,9 @@ phase_stays (suc (suc zero)) es fs name known stays (inr unknown) = inr unknown
 phase_stays (suc (suc (suc left))) es fs name known stays phase = tt
 
 -- only what is known about this record changes
-record Alone (w : World) (name : RecordName) (v : World) : Type 0 where
-  history : v.history ≡ w.history
-  others : (q : RecordName) → same_name name q ≡ false → v.book q ≡ w.book q
+pub record Alone (w : World) (name : RecordName) (v : World) : Type 0 where
+  pub history : v.history ≡ w.history
+  pub others : (q : RecordName) → same_name name q ≡ false → v.book q ≡ w.book q
 
 pub put_here : (book : Book) (name : RecordName) (now : Known) → put book name now name ≡ Some now
 put_here book name now = ap (λ (b : Bool). cond b (Some now) (book name)) ((same_names name name).1 refl)
@@ -116,7 +117,7 @@ kinds_apart name q is_group is_user = elim (cases_Bool (same_name name q)) [
   | inr apart ↦ apart
 ]
 
-stays_ready : (kind : Kind) (w v : World) (name : RecordName) → name.kind ≡ kind → Alone w name v → IsReady kind w → IsReady kind v
+pub stays_ready : (kind : Kind) (w v : World) (name : RecordName) → name.kind ≡ kind → Alone w name v → IsReady kind w → IsReady kind v
 stays_ready kinds.User w v name is alone ready = tt
 stays_ready kinds.Group w v name is alone ready = λ q known of_user in_book. ready q known of_user (sym (alone.others q (kinds_apart name q is of_user)) ∙ in_book)
 
@@ -160,7 +161,7 @@ module _ {ours : Names} (theirs : Meanwhile) (leave : LeavesRoom ours theirs) wh
     done = done;
   }
 
-  module _ (w : World) (c : CalmAmong ours w) (name : RecordName) (known : Known) (x : Advance (next w) name known) where
+  module _ (w : World) (c : CalmAmong ours w) (name : RecordName) (known : Known) (x : Advance Revisions (next w) name known) where
     abbrev then : World
     then = exchange (next w) name
 
@@ -209,21 +210,21 @@ module _ {ours : Names} (theirs : Meanwhile) (leave : LeavesRoom ours theirs) wh
     | inr undone ↦
         let u = next_calm w c in
         let still : (next w).book name ≡ Some known = ap (λ (b : Book). b name) (same_book w (theirs w)) ∙ in_book in
-        let (content, has) = has_image (next w) u name known still name.kind refl (users_stay name.kind w (next w) (same_book w (theirs w)) ready) in
-        let x = one_exchange (next w) u.room u.quiet name known still undone content has in
+        let (content, has) = has_image (next w) (sound_of (next w) u.quiet) u.members name known still name.kind refl (users_stay name.kind w (next w) (same_book w (theirs w)) ready) in
+        let x = one_exchange (next w) u.room (sound_of (next w) u.quiet) name known still undone content has in
         longer w c name known x left
         (one_record left (then w c name known x) (then_calm w c name known x) name x.now (then_known w c name known x)
         (stays_ready name.kind w (then w c name known x) name refl (then_alone w c name known x) ready)
-        (then_at w c name known x left (its_ours w c.quiet name known in_book) undone phase))
+        (then_at w c name known x left (its_ours w (sound_of w c.quiet) name known in_book) undone phase))
   ]
 
 -- ---- all records in turn
 
 -- each record is done or has its turn yet
-abbrev Rest : World → List RecordName → Type 0
+abbrev pub Rest : World → List RecordName → Type 0
 Rest w names = (q : RecordName) (known : Known) → w.book q ≡ Some known → IsDone known ⊎ Has names q
 
-abbrev AllKnown : World → List RecordName → Type 0
+abbrev pub AllKnown : World → List RecordName → Type 0
 AllKnown w names = (i : ℕ) (q : RecordName) → IsAt names i q → (known : Known) × (w.book q ≡ Some known)
 
 abbrev of : Kind → List ℕ → RecordName
@@ -243,7 +244,7 @@ no_user_later name names q order is_group is_user (zero, at) =
 no_user_later name names q order is_group is_user (suc i, at) =
     after_group name.kind q.kind name.key q.key is_group is_user (all_has (Comes name) names i q order at)
 
-is_ready : (kind : Kind) (w : World) (name : RecordName) (names : List RecordName) → name.kind ≡ kind → AllByRecursion (Comes name) names → Rest w (name ∷ names) → IsReady kind w
+pub is_ready : (kind : Kind) (w : World) (name : RecordName) (names : List RecordName) → name.kind ≡ kind → AllByRecursion (Comes name) names → Rest w (name ∷ names) → IsReady kind w
 is_ready kinds.User w name names is order rest = tt
 is_ready kinds.Group w name names is order rest = λ q known of_user in_book. elim (rest q known in_book) [
   | inl done ↦ done
@@ -252,6 +253,30 @@ is_ready kinds.Group w name names is order rest = λ q known of_user in_book. el
 
 same_known : (a b : Known) → Some a ≡ Some b → IsDone a → IsDone b
 same_known a b same done = let equal : a ≡ b = cc in subst IsDone equal done
+
+-- after the turn of a record
+module _ (w after : World) (name : RecordName) (names : List RecordName) (alone : Alone w name after) (known_now : Known) (in_book_now : after.book name ≡ Some known_now) (done : IsDone known_now) where
+  pub rest_after : Rest w (name ∷ names) → Rest after names
+  rest_after rest q known in_book = elim (cases_Bool (same_name name q)) [
+    | inl same ↦
+        let here : after.book q ≡ Some known_now = ap after.book (sym ((same_names name q).0 same)) ∙ in_book_now in
+        inl (same_known known_now known (sym here ∙ in_book) done)
+    | inr other ↦ go other (rest q known (sym (alone.others q other) ∙ in_book))
+  ]
+    where
+      go : same_name name q ≡ false → IsDone known ⊎ Has (name ∷ names) q → IsDone known ⊎ Has names q
+      go other (inl was) = inl was
+      go other (inr (zero, at)) =
+          let same : name ≡ q = cc in
+          let tested : same_name name q ≡ true = (same_names name q).1 same in
+          absurd (cc)
+      go other (inr (suc i, at)) = inr (i, at)
+
+  pub known_after : AllKnown w (name ∷ names) → AllKnown after names
+  known_after all i q at = elim (cases_Bool (same_name name q)) [
+    | inl same ↦ (known_now, ap after.book (sym ((same_names name q).0 same)) ∙ in_book_now)
+    | inr other ↦ let (known, in_book) = all (suc i) q at in (known, alone.others q other ∙ in_book)
+  ]
 
 module _ {ours : Names} (theirs : Meanwhile) (leave : LeavesRoom ours theirs) where
   -- a number of exchanges, after which every record is done
@@ -264,28 +289,6 @@ module _ {ours : Names} (theirs : Meanwhile) (leave : LeavesRoom ours theirs) wh
     done : (q : RecordName) (known : Known) → after.book q ≡ Some known → IsDone known
 
   module _ (w : World) (name : RecordName) (names : List RecordName) (t : Turn theirs leave w name 3) where
-    rest_after : Rest w (name ∷ names) → Rest t.after names
-    rest_after rest q known in_book = elim (cases_Bool (same_name name q)) [
-      | inl same ↦
-          let here : t.after.book q ≡ Some t.known = ap t.after.book (sym ((same_names name q).0 same)) ∙ t.in_book in
-          inl (same_known t.known known (sym here ∙ in_book) t.done)
-      | inr other ↦ go other (rest q known (sym (t.alone.others q other) ∙ in_book))
-    ]
-      where
-        go : same_name name q ≡ false → IsDone known ⊎ Has (name ∷ names) q → IsDone known ⊎ Has names q
-        go other (inl done) = inl done
-        go other (inr (zero, at)) =
-            let same : name ≡ q = cc in
-            let tested : same_name name q ≡ true = (same_names name q).1 same in
-            absurd (cc)
-        go other (inr (suc i, at)) = inr (i, at)
-
-    known_after : AllKnown w (name ∷ names) → AllKnown t.after names
-    known_after all i q at = elim (cases_Bool (same_name name q)) [
-      | inl same ↦ (t.known, ap t.after.book (sym ((same_names name q).0 same)) ∙ t.in_book)
-      | inr other ↦ let (known, in_book) = all (suc i) q at in (known, t.alone.others q other ∙ in_book)
-    ]
-
     onwards : Round t.after names → Round w (name ∷ names)
     onwards r = record {
       count = t.count + r.count;
@@ -311,13 +314,13 @@ module _ {ours : Names} (theirs : Meanwhile) (leave : LeavesRoom ours theirs) wh
   all_records (name ∷ names) w c order all rest =
       let (known, in_book) = all 0 name refl in
       let t = one_record theirs leave 3 w c name known in_book (is_ready name.kind w name names refl order.0 rest) tt in
-      onwards w name names t (all_records names t.after t.calm order.1 (known_after w name names t all) (rest_after w name names t rest))
+      onwards w name names t (all_records names t.after t.calm order.1 (known_after w t.after name names t.alone t.known t.in_book t.done all) (rest_after w t.after name names t.alone t.known t.in_book t.done rest))
 
 -- ---- all runs
 
 known_named : {ours : Names} (w : World) → CalmAmong ours w → Rest w (names_of w.history)
 known_named w c q known in_book =
-    inr (row_counted w.history c.quiet.counted q known.wanted (accepted w c.quiet q known in_book))
+    inr (row_counted w.history c.quiet.counted q known.wanted (accepted w (sound_of w c.quiet) q known in_book))
 
 pub settles_from : {ours : Names} (theirs : Meanwhile) → LeavesRoom ours theirs → (w : World) → CalmAmong ours w → SettlesFrom theirs w
 settles_from theirs leave w c =
@@ -327,7 +330,7 @@ settles_from theirs leave w c =
       r.turns,
       λ name has.
           let (known, in_book) = name_known r.after r.calm name has in
-          settled_of r.after r.calm.quiet name known in_book (r.done name known in_book),
+          settled_of r.after (sound_of r.after r.calm.quiet) name known in_book (r.done name known in_book),
     )
 
 pub settles_among : SettlesAmong

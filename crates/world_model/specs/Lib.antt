@@ -1,5 +1,6 @@
 pub mod World
 pub mod Safe
+pub mod Providers
 pub mod Invariant
 pub mod Reports
 pub mod Untroubled
@@ -8,3 +9,4 @@ pub mod Others
 pub mod Several
 pub mod Room
 pub mod Healing
+pub mod Resetting

@@ -10,14 +10,33 @@ ghost use Rattle.world_model.specs.Healing.{
   PromisedAgain,
   TouchesOnlyWhatDiffers,
 };
-ghost use Rattle.world_model.specs.Invariant.{AlwaysKept, EventsKeepIt, FactsStay};
+ghost use Rattle.world_model.specs.Invariant.{AlwaysKept, EventsKeepIt, EventsKeepItAt, FactsStay};
 ghost use Rattle.world_model.specs.Others.{
   ActsKeepIt,
   AlwaysOnwardAmong,
   AlwaysSafeAmong,
   HeadlineHoldsAmong,
+  HeadlineHoldsAmongAt,
   JudgesBySourceAmong,
   WithoutOthers,
+};
+ghost use Rattle.world_model.specs.Providers.{
+  AlwaysForgets,
+  AlwaysOnwardAt,
+  AlwaysSafeAt,
+  HeadlineHoldsAt,
+  JudgesBySourceAt,
+  OnlyAnswersConfirm,
+  SettlesByAnswers,
+  WithRevisions,
+};
+ghost use Rattle.world_model.specs.Resetting.{
+  HeadlineAlone,
+  HeadlineFromAnyStart,
+  HeadlineThroughResets,
+  HealsAfterResets,
+  PromisedThroughResets,
+  WithoutResets,
 };
 ghost use Rattle.world_model.specs.Room.{
   ActsAnyTime,
@@ -172,4 +191,59 @@ pub fn promised_again()
     ensures again { PromisedAgain }
     ensures acts { HealingIsActs }
     ensures empty { IsStart empty }
+{}
+
+/// Most providers drop the source extension, so they show no revision. If such a provider shows versions, obeys
+/// `If-Match` and never uses a version twice for a resource, the answers to our own requests stand for what
+/// was asked, and the headline holds, word for word (`headline`). So it does with each kind of provider: the world
+/// is safe, where stories may repeat a revision that isn't shown (`safe`); nothing of ours is lost or changed,
+/// and no confirmed revision falls (`onward`); the connector judges as before (`judges`). Each event keeps
+/// the invariant of the kind (`kept`). If others write there too and leave our records alone, the headline holds
+/// for our records (`among`). With a provider that keeps revisions these are the laws above (`revisions`).
+pub fn holds_with_each_provider()
+    ensures headline { HeadlineHoldsAt }
+    ensures safe { AlwaysSafeAt }
+    ensures onward { AlwaysOnwardAt }
+    ensures judges { JudgesBySourceAt }
+    ensures kept { EventsKeepItAt }
+    ensures among { HeadlineHoldsAmongAt }
+    ensures revisions { WithRevisions }
+{}
+
+/// A provider that never gets a revision gives the same answers as one that gets revisions and shows none, and
+/// what it holds is what that one holds, without revisions.
+pub fn forgets_revisions()
+    ensures { AlwaysForgets }
+{}
+
+/// With a provider that shows no revision, too, at most three exchanges for each record settle all records, from
+/// every world that a run reaches, if each row that is offered is within the limits of the source. There a revision
+/// may be written more than once, so the events and the exchanges must be fewer than the versions that a
+/// resource may have.
+pub fn settles_without_revisions()
+    ensures { SettlesByAnswers }
+{}
+
+/// Whatever a provider answers that shows no revision, and whoever wrote what it shows: a confirmed revision changes
+/// only by an answer to a Create or a Replace of this record. The answer shows the name and the activity that were
+/// asked, and the revision is the one that the request carried. So no search confirms.
+pub fn only_answers_confirm()
+    ensures { OnlyAnswersConfirm }
+{}
+
+/// From any start, whoever wrote what the provider holds, and through doubts and resets, whatever messages are
+/// under way: if from then on others leave our records alone, no two resources have the same name; each of our
+/// records that was written since holds the image of an accepted row; no record is lost, or goes back; and what
+/// counts as confirmed is held or surpassed, if it was so at the start, or the record was reset since (`any`).
+/// From the empty start that is the headline, word for word, among others (`empty`) and without them (`alone`).
+/// Whatever anybody did before: once all records are healed, the promise holds for them through resets too
+/// (`again`), and after resets they can be healed (`heals`). Without resets all of this is about acts
+/// (`without`).
+pub fn headline_from_any_start()
+    ensures any { HeadlineFromAnyStart }
+    ensures empty { HeadlineThroughResets }
+    ensures alone { HeadlineAlone }
+    ensures again { PromisedThroughResets }
+    ensures heals { HealsAfterResets }
+    ensures without { WithoutResets }
 {}
