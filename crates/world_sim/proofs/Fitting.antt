@@ -48,13 +48,15 @@ use Rattle.connector_core.specs.declared.learning.LearnFault.TheVariants as faul
 use Rattle.scim_filter.specs.Texts.{filter_text, nesting}
 use Rattle.connector_core.specs.History.{rows_of}
 use Rattle.connector_core.specs.Learning.{Finding, Shows, Shows_none, listed}
-use Rattle.world_model.specs.Safe.{Has, IsAt, IsImage, IsVersion, id_in}
+use Rattle.world_model.specs.Safe.{Has, IsAt, IsImage, id_in}
 use Rattle.world_model.specs.Untroubled.{longest_body}
 use Rattle.world_model.specs.World.{World, Message, Asked, Answered, empty, run}
-use Rattle.world_model.specs.Invariant.{AskedTruly, Names, ShowsTruly}
+use Rattle.world_model.specs.Invariant.{Names, ShowsTruly}
 use Rattle.world_model.specs.Others.{Act, run_among, KeepsApart}
 use Rattle.world_model.specs.Room.{IsLawfulAct}
-use Rattle.world_model.proofs.Ranking.{record_ours, row_lawful, versions_few_of}
+use Rattle.world_model.specs.Resetting.{Happening, run_through, StayApart, IsLawfulHappening}
+use Rattle.world_model.proofs.Durable.{AskedFairly, IsShownVersion}
+use Rattle.world_model.proofs.Ranking.{record_ours, row_lawful}
 use Rattle.world_model.proofs.Searched.{filter_of, kind_of, search_is, search_said as row_found}
 use Rattle.world_model.proofs.Sizes.{image_size, quoted_most, user_name_short, group_name_short}
 use Rattle.scim_client.specs.AnswerLaws.{KeepsAnswerLimits}
@@ -71,7 +73,7 @@ use Rattle.world_sim.specs.Messages.{message_text}
 use Rattle.world_sim.specs.Reading.{IsReadAs}
 use Rattle.world_sim.proofs.BodySizes.{IsBrief as IsBriefShown, shown_most, list_most, error_most, error_lawful}
 use Rattle.world_sim.proofs.TextSizes.{IsWithin}
-use Rattle.world_sim.proofs.Given.{IsPlain, IsSpoken, always_spoken, always_spoken_among}
+use Rattle.world_sim.proofs.Given.{IsHeard, IsPlain, always_spoken, always_spoken_among, heard, heard_through}
 use Rattle.world_sim.proofs.HeadSizes.{base_short, id_short, tag_short, keeps_limits, create_brief, replace_brief, search_brief, within, nothing_within, location_within, length_within, id_length, IsBriefAnswer, keeps_answer_limits}
 
 body_small : (kind : Kind) → longest_body kind ≤ 21000
@@ -209,7 +211,7 @@ id_spelled es name id is = go (entry_named name es) is
     go None was = absurd (cc)
     go (Some n) was = (n.number, cc)
 
-module _ {ours : Names} (base : List ℕ) (is_base : IsBase base) (w : World) (q : IsSpoken ours w) where
+module _ {ours : Names} (base : List ℕ) (is_base : IsBase base) (w : World) (q : IsHeard ours w) where
   short : length base ≤ 110
   short = base_short base is_base
 
@@ -220,15 +222,15 @@ module _ {ours : Names} (base : List ℕ) (is_base : IsBase base) (w : World) (q
 
   -- a record with an accepted row is ours
   own_record : (name : RecordName) (row : Row) → Has (rows_of w.history name) row → ours name ≡ true
-  own_record = record_ours ours w.history q.inv.mine
+  own_record = record_ours ours w.history q.mine
 
   abbrev Keeps : Request → Type 0
   Keeps request = IsWritable request × KeepsLimits base request
 
-  version_most : (name : RecordName) (id tag : List ℕ) (revision : RevisionValue) → ours name ≡ true → IsVersion w.entries name id tag revision → (length id ≤ 36) × (length tag ≤ 22)
+  version_most : (name : RecordName) (id tag : List ℕ) (revision : RevisionValue) → ours name ≡ true → IsShownVersion w.entries name id tag revision → (length id ≤ 36) × (length tag ≤ 22)
   version_most name id tag revision own v =
       let turn = slice_get_within (story v.entry) v.turn v.content v.held in
-      let few = versions_few_of w.history w.entries q.inv.kept q.lawful v.place v.entry v.here (ap ours v.of_record ∙ own) in (
+      let few = q.short v.place v.entry v.here in (
         subst (λ (t : List ℕ). length t ≤ 36) (sym v.has_id) (id_short (suc v.place)),
         subst (λ (t : List ℕ). length t ≤ 22) (sym v.has_tag) (tag_short (suc v.turn) (omega (arith, turn, few))),
       )
@@ -239,7 +241,7 @@ module _ {ours : Names} (base : List ℕ) (is_base : IsBase base) (w : World) (q
       subst (λ (c : Condition). Keeps (Replace id content c if_none_match)) (sym alone)
       (subst (λ (c : Condition). Keeps (Replace id content (Tags (tag ∷ [])) c)) (sym plain) keeps)
 
-  pub asked_fits : (request : Request) → AskedTruly w.history w.entries request → IsPlain request → Keeps request
+  pub asked_fits : (request : Request) → AskedFairly w.history w.entries request → IsPlain request → Keeps request
   asked_fits (Create content) asked plain = (tt, keeps_limits base short (Create content) (create_brief content (image_most (content_name content) content asked)))
   asked_fits (Retrieve kind id if_match if_none_match) asked plain = absurd asked
   asked_fits (Search kind wanted start count) asked plain =
@@ -258,12 +260,12 @@ module _ {ours : Names} (base : List ℕ) (is_base : IsBase base) (w : World) (q
   IsOwnFact s = (fact : IsFact w.entries s) × (ours fact.entry.name ≡ true)
 
   own_fact : (s : ShownRecord) (name : RecordName) → ours name ≡ true → content_name s.content ≡ name → IsFact w.entries s → IsOwnFact s
-  own_fact s name own its fact = (fact, ap ours (sym (q.inv.kept.whole.named fact.place fact.turn fact.entry s.content fact.here fact.held) ∙ its) ∙ own)
+  own_fact s name own its fact = (fact, ap ours (sym (q.whole.named fact.place fact.turn fact.entry s.content fact.here fact.held) ∙ its) ∙ own)
 
   brief_shown : (s : ShownRecord) → IsOwnFact s → IsBriefShown base s
   brief_shown s (fact, own) =
       let turn = slice_get_within (story fact.entry) fact.turn s.content fact.held in
-      let few = versions_few_of w.history w.entries q.inv.kept q.lawful fact.place fact.entry fact.here own in
+      let few = q.short fact.place fact.entry fact.here in
       record {
         at = short;
         id = subst (λ (t : List ℕ). length t ≤ 36) (sym fact.id) (id_short (suc fact.place));
@@ -272,7 +274,7 @@ module _ {ours : Names} (base : List ℕ) (is_base : IsBase base) (w : World) (q
 
   shown_short : (s : ShownRecord) → IsOwnFact s → length (compact_text (shown_data base s)) ≤ 22797
   shown_short s (fact, own) =
-      let content = image_most fact.entry.name s.content (q.inv.kept.imaged fact.place fact.turn fact.entry s.content fact.here own fact.held) in
+      let content = image_most fact.entry.name s.content (q.imaged fact.place fact.turn fact.entry s.content fact.here own fact.held) in
       omega (arith, shown_most base s (brief_shown s (fact, own)), content)
 
   location_brief : (s : ShownRecord) → IsOwnFact s → IsWithin 226 (Some (location_text base (content_kind s.content) s.id))
@@ -345,7 +347,7 @@ module _ {ours : Names} (base : List ℕ) (is_base : IsBase base) (w : World) (q
     own : ours name ≡ true
     tells : Tells name request answer
 
-  answers_own : (request : Request) (es : List Entry) → IsWholeTable es → AskedTruly w.history w.entries request → IsOwnAnswer request (step es request).answer
+  answers_own : (request : Request) (es : List Entry) → IsWholeTable es → AskedFairly w.history w.entries request → IsOwnAnswer request (step es request).answer
   answers_own (Create content) es whole asked =
       record { name = content_name content; own = own_record (content_name content) asked.row asked.accepted; tells = creating_tells _ _ es content }
   answers_own (Retrieve kind id if_match if_none_match) es whole asked = absurd asked
@@ -365,15 +367,15 @@ module _ {ours : Names} (base : List ℕ) (is_base : IsBase base) (w : World) (q
   answered_fits : (i : ℕ) (request : Request) (answer : Answer) → IsAt w.messages i (Answered request answer) → IsFitAnswer request answer
   answered_fits i request answer at =
       let given = q.said i (Answered request answer) at in
-      let its = answers_own request given.entries given.whole (q.inv.told given.asked.0 (Asked request) given.asked.1) in
-      answer_fits its.name its.own request answer (subst (Tells its.name request) (sym given.is) its.tells) (q.inv.told i (Answered request answer) at)
+      let its = answers_own request given.entries given.whole (q.asked given.asked.0 request given.asked.1) in
+      answer_fits its.name its.own request answer (subst (Tells its.name request) (sym given.is) its.tells) (q.shown i request answer at)
 
   pub within_limits : (i : ℕ) (message : Message) → IsAt w.messages i message → IsWithinLimits base message
-  within_limits i (Asked request) at = asked_fits request (q.inv.told i (Asked request) at) (q.said i (Asked request) at)
+  within_limits i (Asked request) at = asked_fits request (q.asked i request at) (q.said i (Asked request) at)
   within_limits i (Answered request answer) at = keeps_answer_limits base answer (answered_fits i request answer at).brief
 
   -- an answer is read by its request, whose filter doesn't matter
-  read_by : (request : Request) (answer : Answer) → AskedTruly w.history w.entries request → Fits request answer → IsUtf8 (answer_body base answer) → KeepsAnswerLimits base answer
+  read_by : (request : Request) (answer : Answer) → AskedFairly w.history w.entries request → Fits request answer → IsUtf8 (answer_body base answer) → KeepsAnswerLimits base answer
       → AnswersSo (answer_text base false answer) request answer
   read_by (Create content) answer asked fits utf8 limits = answers_are_read base (Create content) answer is_base tt fits utf8 limits
   read_by (Retrieve kind id if_match if_none_match) answer asked fits utf8 limits = absurd asked
@@ -385,20 +387,26 @@ module _ {ours : Names} (base : List ℕ) (is_base : IsBase base) (w : World) (q
       answers_are_read base (Replace id content if_match if_none_match) answer is_base (subst IsIdText (sym v.has_id) (id_is_text (suc v.place), id_lawful (suc v.place))) fits utf8 limits
 
   pub is_read : (i : ℕ) (message : Message) → IsAt w.messages i message → IsFormed base message → IsReadAs (message_text base message) message
-  is_read i (Asked request) at formed = let keeps = asked_fits request (q.inv.told i (Asked request) at) (q.said i (Asked request) at) in formed keeps.0 keeps.1
+  is_read i (Asked request) at formed = let keeps = asked_fits request (q.asked i request at) (q.said i (Asked request) at) in formed keeps.0 keeps.1
   is_read i (Answered request answer) at formed =
       let fit = answered_fits i request answer at in
       let given = q.said i (Answered request answer) at in
-      read_by request answer (q.inv.told given.asked.0 (Asked request) given.asked.1) (fit.fits formed.0) formed.1 (keeps_answer_limits base answer fit.brief)
+      read_by request answer (q.asked given.asked.0 request given.asked.1) (fit.fits formed.0) formed.1 (keeps_answer_limits base answer fit.brief)
 
 pub messages_keep_limits : MessagesKeepLimits
-messages_keep_limits base events message is_base law has = within_limits base is_base (run empty events) (always_spoken events law) has.0 message has.1
+messages_keep_limits base events message is_base law has = within_limits base is_base (run empty events) (heard (run empty events) (always_spoken events law)) has.0 message has.1
 
 pub messages_are_read : MessagesAreRead
-messages_are_read base events message is_base law has = is_read base is_base (run empty events) (always_spoken events law) has.0 message has.1
+messages_are_read base events message is_base law has = is_read base is_base (run empty events) (heard (run empty events) (always_spoken events law)) has.0 message has.1
 
 -- among others too, whether the provider has room or not
 pub messages_are_read_among : (base : List ℕ) (ours : Names) (all : List Act) (message : Message) → IsBase base → KeepsApart ours all → AllByRecursion IsLawfulAct all
     → Has (run_among empty all).messages message → IsFormed base message → IsReadAs (message_text base message) message
 messages_are_read_among base ours all message is_base apart law has =
-    is_read base is_base (run_among empty all) (always_spoken_among ours all apart law) has.0 message has.1
+    is_read base is_base (run_among empty all) (heard (run_among empty all) (always_spoken_among ours all apart law)) has.0 message has.1
+
+-- through resets too
+pub messages_are_read_through : (base : List ℕ) (ours : Names) (all : List Happening) (message : Message) → IsBase base → StayApart ours all → AllByRecursion IsLawfulHappening all
+    → Has (run_through empty all).messages message → IsFormed base message → IsReadAs (message_text base message) message
+messages_are_read_through base ours all message is_base apart law has =
+    is_read base is_base (run_through empty all) (heard_through ours all apart law) has.0 message has.1

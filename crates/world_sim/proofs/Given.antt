@@ -1,14 +1,18 @@
 -- What is asked and answered in a run, also among others: no request is bound to the absence of a version, each reply is the answer
 -- of a whole table to a request that was asked before, and each accepted row is valid.
-use Rattle.std.proofs.Common.{◌≡◌, ℕ, Bool, true, false, cond, List, [], ◌∷◌, ◌++◌, Option, Some, None, Result, Ok, Err, inl, inr, refl, sym, subst}
+use Rattle.std.proofs.Common.{◌≡◌, ℕ, Bool, true, false, cond, List, [], ◌∷◌, ◌++◌, Option, Some, None, Result, Ok, Err, inl, inr, refl, ap, sym, subst}
 use Rattle.std.specs.List.{AllByRecursion}
 use Rattle.std.specs.Option.{option_map}
+use Rattle.scim_key.proofs.RevisionLaws.{up_to_before}
+use Rattle.scim_key.specs.Revisions.{RevisionValue, ◌≼◌}
+use Rattle.scim_key.specs.declared.records.RecordName.{RecordName}
+use Rattle.scim_resource.specs.Contents.{content_name}
 use Rattle.scim_version.specs.declared.conditions.Condition.TheVariants.{Always}
 use Rattle.scim_resource.specs.declared.contents.Content.{Content}
 use Rattle.scim_message.specs.declared.messages.Answer.{Answer}
 use Rattle.scim_message.specs.declared.messages.Request.{Request}
 use Rattle.scim_message.specs.declared.messages.Request.TheVariants.{Create, Retrieve, Search, Replace}
-use Rattle.provider_core.specs.Stories.{Entry, step}
+use Rattle.provider_core.specs.Stories.{Entry, story, step}
 use Rattle.provider_core.specs.Tables.{IsWholeTable}
 use Rattle.provider_core.proofs.TableLaws.{at_push, at_more}
 use Rattle.source_csv.specs.Records.{IsRow}
@@ -20,6 +24,7 @@ use Rattle.connector_core.specs.Book.{Book}
 use Rattle.connector_core.specs.Asking.{asking, asking_of, asking_with, request_for, search_for}
 use Rattle.connector_core.specs.Changing.{history_after}
 use Rattle.connector_core.specs.History.{History}
+use Rattle.connector_core.specs.Learning.{or_no_revision, shown_revision}
 use Rattle.connector_core.specs.declared.accepting.Verdict.{Verdict}
 use Rattle.connector_core.specs.declared.accepting.Verdict.TheVariants as verdicts
 use Rattle.connector_core.specs.declared.asking.Ask.{Ask}
@@ -29,13 +34,19 @@ use Rattle.connector_core.specs.declared.knowledge.Known.{Known}
 use Rattle.connector_core.specs.declared.knowledge.Seen.{Seen}
 use Rattle.connector_core.specs.declared.knowledge.Seen.TheVariants.{Unknown, Absent, At}
 use Rattle.world_model.specs.World.{World, Message, Asked, Answered, Event, Changes, Sends, Delivers, Cuts, Restarts_provider, Restarts_connector, Doubts, sends, delivers, message_at, happens, judged, empty, run}
-use Rattle.world_model.specs.Safe.{IsAt, Has}
+use Rattle.world_model.specs.Safe.{IsAt, Has, IsImage, IsVersion}
 use Rattle.world_model.specs.Untroubled.{IsLawful}
-use Rattle.world_model.specs.Invariant.{Names, InvariantOf, all_names}
+use Rattle.world_model.specs.Invariant.{AllOurs, AskedTruly, Names, InvariantOf, ShowsTruly, all_names}
 use Rattle.world_model.specs.Others.{Act, Ours, Theirs, acts, run_among, OfOurs, IsApart, KeepsApart}
 use Rattle.world_model.specs.Room.{IsLawfulAct}
+use Rattle.world_model.specs.Resetting.{Happening, Does, Forgets, undergoes, run_through, StayApart, IsLawfulHappening}
 use Rattle.world_model.proofs.Invariant.{act_inv, all_of_ours, message_there, none_inv}
+use Rattle.world_model.proofs.Durable.{AllAsked, AskedFairly, Durable, IsShownVersion, start_durable}
+use Rattle.world_model.proofs.Faring.{AllShort}
+use Rattle.world_model.proofs.InOrder.{empty_is_start}
 use Rattle.world_model.proofs.Ranking.{AllLawful}
+use Rattle.world_model.proofs.Resetting.{through_durable, undergoes_durable}
+use Rattle.world_model.proofs.Starting.{story_images, stories_short, through_ours}
 
 -- ---- what is asked
 
@@ -157,6 +168,79 @@ event_lawful w Restarts_provider law lawful = lawful
 event_lawful w Restarts_connector law lawful = lawful
 event_lawful w (Doubts name) law lawful = lawful
 
+-- ---- what it takes
+
+-- What it takes for the messages to be read, if these records are ours: whatever was asked is fair, and what answers
+-- show is a content of a story; each content of ours is an image
+pub record IsHeard (ours : Names) (w : World) : Type 0 where
+  pub mine : AllOurs ours w.history
+  pub lawful : AllLawful w.history
+  pub said : AllSaid w.messages
+  pub whole : IsWholeTable w.entries
+  pub asked : AllAsked w.history w.entries w.messages
+  pub shown : (i : ℕ) (request : Request) (answer : Answer) → IsAt w.messages i (Answered request answer) → ShowsTruly w.entries answer
+  pub imaged : (i j : ℕ) (e : Entry) (c : Content) → IsAt w.entries i e → ours e.name ≡ true → IsAt (story e) j c → IsImage w.history w.entries e.name c
+  pub short : AllShort w.entries
+
+-- a version with a revision shows that revision
+shown_version : (es : List Entry) (name : RecordName) (id tag : List ℕ) (revision : RevisionValue) → IsVersion es name id tag revision → IsShownVersion es name id tag revision
+shown_version es name id tag revision v = record {
+  place = v.place;
+  turn = v.turn;
+  entry = v.entry;
+  content = v.content;
+  here = v.here;
+  of_record = v.of_record;
+  held = v.held;
+  has_id = v.has_id;
+  has_tag = v.has_tag;
+  at_revision = ap or_no_revision v.at_revision;
+}
+
+-- what was asked truly was asked fairly
+pub asked_fairly : (history : History) (es : List Entry) (request : Request) → AskedTruly history es request → AskedFairly history es request
+asked_fairly history es (Create content) asked = asked
+asked_fairly history es (Retrieve kind id if_match if_none_match) asked = asked
+asked_fairly history es (Search kind wanted start count) asked = asked
+asked_fairly history es (Replace id content if_match if_none_match) asked = record {
+  image = asked.image;
+  tag = asked.tag;
+  alone = asked.alone;
+  older = asked.older;
+  version = shown_version es (content_name content) id asked.tag asked.older asked.version;
+  not_below = subst (λ (r : RevisionValue). asked.older ≼ r) (sym (ap or_no_revision asked.revision)) (up_to_before asked.older asked.newer asked.rises);
+}
+
+-- ---- through resets
+
+through_said : (w : World) (all : List Happening) → Durable w → AllSaid w.messages → AllSaid (run_through w all).messages
+through_said w [] t said = said
+through_said w (Does (Ours event) ∷ later) t said =
+    through_said (happens w event) later (undergoes_durable w (Does (Ours event)) t) (event_said w event t.whole said)
+through_said w (Does (Theirs request) ∷ later) t said = through_said (acts w (Theirs request)) later (undergoes_durable w (Does (Theirs request)) t) said
+through_said w (Forgets these ∷ later) t said = through_said (undergoes w (Forgets these)) later (undergoes_durable w (Forgets these) t) said
+
+through_lawful : (w : World) (all : List Happening) → AllByRecursion IsLawfulHappening all → AllLawful w.history → AllLawful (run_through w all).history
+through_lawful w [] law lawful = lawful
+through_lawful w (Does (Ours event) ∷ later) law lawful = through_lawful (happens w event) later law.1 (event_lawful w event law.0 lawful)
+through_lawful w (Does (Theirs request) ∷ later) law lawful = through_lawful (acts w (Theirs request)) later law.1 lawful
+through_lawful w (Forgets these ∷ later) law lawful = through_lawful (undergoes w (Forgets these)) later law.1 lawful
+
+pub heard_through : (ours : Names) (all : List Happening) → StayApart ours all → AllByRecursion IsLawfulHappening all → IsHeard ours (run_through empty all)
+heard_through ours all apart law =
+    let first = start_durable empty empty_is_start in
+    let t = through_durable empty all first in
+    record {
+      mine = through_ours ours empty all apart (λ row none. absurd (cc none.1));
+      lawful = through_lawful empty all law (λ i row at. absurd (cc));
+      said = through_said empty all first (λ i message at. absurd (cc));
+      whole = t.whole;
+      asked = t.asked;
+      shown = t.shown;
+      imaged = story_images ours all apart;
+      short = stories_short ours all apart;
+    }
+
 -- ---- every act
 
 -- what it rests on that the messages are read, if these records are ours
@@ -189,3 +273,16 @@ always_spoken events law = run_spoken empty events law (none_spoken all_names)
 
 pub always_spoken_among : (ours : Names) (all : List Act) → KeepsApart ours all → AllByRecursion IsLawfulAct all → IsSpoken ours (run_among empty all)
 always_spoken_among ours all apart law = among_spoken empty all apart law (none_spoken ours)
+
+-- what was spoken is heard
+pub heard : {ours : Names} (w : World) → IsSpoken ours w → IsHeard ours w
+heard w q = record {
+  mine = q.inv.mine;
+  lawful = q.lawful;
+  said = q.said;
+  whole = q.inv.kept.whole;
+  asked = λ i request at. asked_fairly w.history w.entries request (q.inv.told i (Asked request) at);
+  shown = λ i request answer at. q.inv.told i (Answered request answer) at;
+  imaged = q.inv.kept.imaged;
+  short = q.inv.kept.short;
+}

@@ -9,7 +9,7 @@ use Rattle.serde_json.specs.Written.{compact_text}
 use Rattle.form_urlencoded.specs.Form.{append_pair}
 use Rattle.scim_key.specs.Bases.{IsBase, base_fault, authority_of}
 use Rattle.scim_key.specs.Identifiers.{id_text, hex_digit, lower_hex}
-use Rattle.scim_key.specs.Revisions.{most_revisions}
+use Rattle.scim_resource.specs.Rows.{last_version}
 use Rattle.scim_key.specs.declared.records.Kind.{Kind}
 use Rattle.scim_key.specs.declared.records.Kind.TheVariants as kinds
 use Rattle.scim_version.specs.Tags.{version_tag}
@@ -58,7 +58,7 @@ id_length n = omega (arith, length-append (codes "5c1a0000-0000-8000-8000-") (lo
 pub id_short : (n : ℕ) → length (id_text n) ≤ 36
 id_short n = omega (arith, id_length n)
 
-pub tag_short : (n : ℕ) → n ≤ most_revisions → length (version_tag n) ≤ 22
+pub tag_short : (n : ℕ) → n ≤ last_version → length (version_tag n) ≤ 22
 tag_short n few = omega (arith, length-append (decimal n) (34 ∷ []), length-decimal-le 20 n (lit< tt) (omega (arith, few)) (omega (arith, few)))
 
 length_short : (n : ℕ) → n ≤ 100000 → length (decimal n) ≤ 20
