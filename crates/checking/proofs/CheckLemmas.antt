@@ -11,7 +11,7 @@ use Rattle.provisioning.specs.Openings.{Opening, Opens}
 use Rattle.provisioning.specs.Runs.{IsUntold}
 use Rattle.provisioning.specs.declared.faults.RunFault.{RunFault}
 use Rattle.provisioning.specs.declared.faults.RunFault.TheVariants.{Memory}
-use Rattle.checking.specs.Checks.{Begins, Checked, Checks, ChecksEach, ChecksNames, ChecksSome, IsBegun, IsChecked, IsSent, IsUnsent, MakesRoom, ReportsAll, ReportsOne, ReportsRest, Sends, Sent, Tells, Told, findings_of, names_of, openings_of, told_of}
+use Rattle.checking.specs.Checks.{Begins, Checked, Checks, ChecksEach, ChecksSome, IsBegun, IsChecked, IsSent, IsUnsent, MakesRoom, NotesOf, ReportsAll, ReportsOne, ReportsRest, Sends, Sent, findings_of, names_of, notes_of, openings_of}
 use Rattle.checking.specs.Counting.{counts_after, no_counts, with_finding}
 use Rattle.checking.specs.declared.begun.Begun.{Begun}
 use Rattle.checking.specs.declared.begun.Pending.{Pending}
@@ -73,13 +73,21 @@ sent_openings (c ∷ cs) = ap (λ l. c.opened ++ l) (sent_openings cs)
 
 module _ {I O : Type 0} (remaining : I → Option (List ℕ)) (contents : O → Option (List ℕ)) (base : List ℕ)
     (book : Book) where
+  -- memory ran out before the record was begun
+  pub unsent : (opened : Option (List (Opening I O))) (name : RecordName) (fault : RunFault)
+      (result : Result (Begun I O) RunFault) → result ≡ Err fault → fault ≡ Memory
+      → Opens opened opened (λ added. Begins contents base book name added result)
+  unsent opened name fault result is memory = ([], adds_none opened, rw (is, memory) (inr (refl, refl)))
+
+module _ {N I O : Type 0} (note : NotesOf N) (remaining : I → Option (List ℕ)) (contents : O → Option (List ℕ))
+    (base : List ℕ) (book : Book) where
   all_sent : (cs : List (Checked I O)) → AllByRecursion (IsChecked remaining contents base book) cs
       → AllByRecursion (IsSent remaining contents base book) (map sent_of cs)
   all_sent [] all = tt
   all_sent (c ∷ cs) all = (all.0.begins, all_sent cs all.1)
 
   -- these records were checked, reported and counted, and then these were begun, which are under way
-  pub record UnderWay (names : List RecordName) (opened : List (Opening I O)) (before told : Option (List Told))
+  pub record UnderWay (names : List RecordName) (opened : List (Opening I O)) (before told : Option (List N))
       (counts : Counts) (queue : List (Pending I O)) : Type 0 where
     pub checked : List (Checked I O)
     pub sent : List (Sent I O)
@@ -87,12 +95,12 @@ module _ {I O : Type 0} (remaining : I → Option (List ℕ)) (contents : O → 
     pub opened_are : opened ≡ openings_of checked ++ flat_map (λ s. s.opened) sent
     pub each : AllByRecursion (IsChecked remaining contents base book) checked
     pub begun : AllByRecursion (IsSent remaining contents base book) sent
-    pub reported : Tells before told (map told_of checked)
+    pub reported : Adds before told (notes_of note checked)
     pub counts_are : counts ≡ counts_after no_counts (findings_of checked)
     pub queue_is : queue ≡ map pending_of sent
 
   -- no record yet
-  pub none_yet : (told : Option (List Told)) → UnderWay [] [] told told no_counts []
+  pub none_yet : (told : Option (List N)) → UnderWay [] [] told told no_counts []
   none_yet told = record {
     checked = [];
     sent = [];
@@ -107,7 +115,7 @@ module _ {I O : Type 0} (remaining : I → Option (List ℕ)) (contents : O → 
 
   -- one more was begun
   pub sent_more : (names : List RecordName) (name : RecordName) (opened first : List (Opening I O))
-      (before told : Option (List Told)) (counts : Counts) (queue new : List (Pending I O)) (begun : Begun I O)
+      (before told : Option (List N)) (counts : Counts) (queue new : List (Pending I O)) (begun : Begun I O)
       → UnderWay names opened before told counts queue → IsBegun contents base book name first begun
       → new ≡ queue ++ record { name = name; begun = begun } ∷ []
       → UnderWay (names ++ name ∷ []) (opened ++ first) before told counts new
@@ -131,17 +139,22 @@ module _ {I O : Type 0} (remaining : I → Option (List ℕ)) (contents : O → 
       }
 
   -- the first of these was reported
-  first_of_sent : (names : List RecordName) (opened : List (Opening I O)) (before told after : Option (List Told))
+  first_of_sent : (names : List RecordName) (opened : List (Opening I O)) (before told after : Option (List N))
       (counts more : Counts) (cs : List (Checked I O)) (s : Sent I O) (ss : List (Sent I O))
       → names ≡ names_of cs ++ s.name ∷ map (λ t. t.name) ss
       → opened ≡ openings_of cs ++ (s.opened ++ flat_map (λ t. t.opened) ss)
       → AllByRecursion (IsChecked remaining contents base book) cs
       → AllByRecursion (IsSent remaining contents base book) (s ∷ ss)
-      → Tells before told (map told_of cs) → counts ≡ counts_after no_counts (findings_of cs)
-      → ReportsOne remaining s.name s.begun counts told after more
+      → Adds before told (notes_of note cs) → counts ≡ counts_after no_counts (findings_of cs)
+      → ReportsOne note remaining s.name s.begun counts told after more
       → UnderWay names opened before after more (map pending_of ss)
   first_of_sent names opened before told after counts more cs s ss ns os each begun told_are counts_are reports =
-      let c : Checked I O = record { name = s.name; opened = s.opened; begun = s.begun; finding = reports.finding } in record {
+      let c : Checked I O = record {
+        name = s.name;
+        opened = s.opened;
+        begun = s.begun;
+        finding = reports.finding;
+      } in record {
         checked = cs ++ c ∷ [];
         sent = ss;
         names_are = ns ∙ sym (append_assoc (names_of cs) (s.name ∷ []) (map (λ t. t.name) ss))
@@ -151,70 +164,75 @@ module _ {I O : Type 0} (remaining : I → Option (List ℕ)) (contents : O → 
             ∙ ap (λ l. l ++ flat_map (λ t. t.opened) ss) (sym (flat_map-append (λ d. d.opened) cs (c ∷ [])));
         each = all_joined _ cs (c ∷ []) each (record { begins = begun.0; found = reports.found }, tt);
         begun = begun.1;
-        reported = subst (λ l. Tells before after l) (sym (map-append told_of cs (c ∷ [])))
-            (adds_more before told after (map told_of cs) (told_of c ∷ []) told_are reports.told);
+        reported = subst (λ l. Adds before after l)
+            (ap (λ l. notes_of note cs ++ l) (sym (append-nil (note s.name reports.finding)))
+            ∙ sym (flat_map-append (λ d. note d.name d.finding) cs (c ∷ [])))
+            (adds_more before told after (notes_of note cs) (note s.name reports.finding) told_are reports.noted);
         counts_are = reports.counts_are ∙ ap (λ n. with_finding n reports.finding) counts_are
             ∙ sym (counted_more no_counts (findings_of cs) reports.finding)
             ∙ ap (λ l. counts_after no_counts l) (sym (map-append (λ d. d.finding) cs (c ∷ [])));
         queue_is = refl;
       }
 
-  first_by : (names : List RecordName) (opened : List (Opening I O)) (before told after : Option (List Told))
-      (counts more : Counts) (cs : List (Checked I O)) (ss : List (Sent I O)) (p : Pending I O) (ps : List (Pending I O))
+  first_by : (names : List RecordName) (opened : List (Opening I O)) (before told after : Option (List N))
+      (counts more : Counts) (cs : List (Checked I O)) (ss : List (Sent I O)) (p : Pending I O)
+      (ps : List (Pending I O))
       → names ≡ names_of cs ++ map (λ t. t.name) ss → opened ≡ openings_of cs ++ flat_map (λ t. t.opened) ss
       → AllByRecursion (IsChecked remaining contents base book) cs
       → AllByRecursion (IsSent remaining contents base book) ss
-      → Tells before told (map told_of cs) → counts ≡ counts_after no_counts (findings_of cs)
-      → p ∷ ps ≡ map pending_of ss → ReportsOne remaining p.name p.begun counts told after more
+      → Adds before told (notes_of note cs) → counts ≡ counts_after no_counts (findings_of cs)
+      → p ∷ ps ≡ map pending_of ss → ReportsOne note remaining p.name p.begun counts told after more
       → UnderWay names opened before after more ps
   first_by names opened before told after counts more cs [] p ps ns os each begun told_are counts_are is reports = cc
-  first_by names opened before told after counts more cs (s ∷ ss) p ps ns os each begun told_are counts_are is reports =
+  first_by names opened before told after counts more cs (s ∷ ss) p ps ns os each begun told_are counts_are is
+      reports =
       let here : p ≡ pending_of s = cc in
       let rest : map pending_of ss ≡ ps = cc in
-      let said : ReportsOne remaining s.name s.begun counts told after more =
-      subst (λ q. ReportsOne remaining q.name q.begun counts told after more) here reports in
+      let said : ReportsOne note remaining s.name s.begun counts told after more =
+      subst (λ q. ReportsOne note remaining q.name q.begun counts told after more) here reports in
       subst (λ q. UnderWay names opened before after more q) rest
       (first_of_sent names opened before told after counts more cs s ss ns os each begun told_are counts_are said)
 
-  pub first_reported : (names : List RecordName) (opened : List (Opening I O)) (before told after : Option (List Told))
+  pub first_reported : (names : List RecordName) (opened : List (Opening I O)) (before told after : Option (List N))
       (counts more : Counts) (p : Pending I O) (ps : List (Pending I O))
-      → UnderWay names opened before told counts (p ∷ ps) → ReportsOne remaining p.name p.begun counts told after more
+      → UnderWay names opened before told counts (p ∷ ps)
+      → ReportsOne note remaining p.name p.begun counts told after more
       → UnderWay names opened before after more ps
   first_reported names opened before told after counts more p ps all reports =
-      first_by names opened before told after counts more all.checked all.sent p ps all.names_are all.opened_are all.each
-      all.begun all.reported all.counts_are all.queue_is reports
+      first_by names opened before told after counts more all.checked all.sent p ps all.names_are all.opened_are
+      all.each all.begun all.reported all.counts_are all.queue_is reports
 
   -- there is room for one more
-  pub room_made : (names : List RecordName) (opened : List (Opening I O)) (before told after : Option (List Told))
+  pub room_made : (names : List RecordName) (opened : List (Opening I O)) (before told after : Option (List N))
       (counts more : Counts) (old new : List (Pending I O)) → UnderWay names opened before told counts old
-      → MakesRoom remaining old new counts told after (Ok more) → UnderWay names opened before after more new
+      → MakesRoom note remaining old new counts told after (Ok more) → UnderWay names opened before after more new
   room_made names opened before told after counts more [] new all (inl made) = rw (made.0, made.1, made.2) all
   room_made names opened before told after counts more (p ∷ ps) new all (inl made) =
       rw made.0 (first_reported names opened before told after counts more p ps all made.1)
   room_made names opened before told after counts more old new all (inr same) = rw (same.0, same.1, same.2) all
 
   -- none is under way any more
-  none_left : (names : List RecordName) (opened : List (Opening I O)) (before told : Option (List Told))
+  none_left : (names : List RecordName) (opened : List (Opening I O)) (before told : Option (List N))
       (counts : Counts) (cs : List (Checked I O)) (ss : List (Sent I O))
       → names ≡ names_of cs ++ map (λ t. t.name) ss → opened ≡ openings_of cs ++ flat_map (λ t. t.opened) ss
       → AllByRecursion (IsChecked remaining contents base book) cs
-      → Tells before told (map told_of cs) → counts ≡ counts_after no_counts (findings_of cs)
-      → [] ≡ map pending_of ss → ChecksEach remaining contents base book names opened before told counts
+      → Adds before told (notes_of note cs) → counts ≡ counts_after no_counts (findings_of cs)
+      → [] ≡ map pending_of ss → ChecksEach note remaining contents base book names opened before told counts
   none_left names opened before told counts cs [] ns os each told_are counts_are is = record {
     checked = cs;
     names_are = ns ∙ append-nil (names_of cs);
     opened_are = os ∙ append-nil (openings_of cs);
     each = each;
-    told = told_are;
+    noted = told_are;
     counts_are = counts_are;
   }
   none_left names opened before told counts cs (s ∷ ss) ns os each told_are counts_are is = cc
 
   -- all that were under way were reported
-  pub all_reported : (names : List RecordName) (opened : List (Opening I O)) (before told after : Option (List Told))
+  pub all_reported : (names : List RecordName) (opened : List (Opening I O)) (before told after : Option (List N))
       (counts more : Counts) (queue : List (Pending I O)) → UnderWay names opened before told counts queue
-      → ReportsAll remaining queue counts told after more
-      → ChecksEach remaining contents base book names opened before after more
+      → ReportsAll note remaining queue counts told after more
+      → ChecksEach note remaining contents base book names opened before after more
   all_reported names opened before told after counts more [] all reports = rw (reports.0, reports.1)
       (none_left names opened before told counts all.checked all.sent all.names_are all.opened_are all.each all.reported
       all.counts_are all.queue_is)
@@ -223,7 +241,7 @@ module _ {I O : Type 0} (remaining : I → Option (List ℕ)) (contents : O → 
       (first_reported names opened before told reports.0 counts reports.1 p ps all reports.2) reports.3
 
   -- the run ended here
-  pub broken : (names others : List RecordName) (opened last : List (Opening I O)) (before told : Option (List Told))
+  pub broken : (names others : List RecordName) (opened last : List (Opening I O)) (before told : Option (List N))
       (counts : Counts) (queue : List (Pending I O)) (fault : RunFault)
       → UnderWay names opened before told counts queue → IsUnsent last fault ⊎ ((last ≡ []) × IsUntold fault)
       → ChecksSome remaining contents base book (names ++ others) (opened ++ last) fault
@@ -241,20 +259,14 @@ module _ {I O : Type 0} (remaining : I → Option (List ℕ)) (contents : O → 
     ends = ends;
   }
 
-  -- memory ran out before the record was begun
-  pub unsent : (opened : Option (List (Opening I O))) (name : RecordName) (fault : RunFault)
-      (result : Result (Begun I O) RunFault) → result ≡ Err fault → fault ≡ Memory
-      → Opens opened opened (λ added. Begins contents base book name added result)
-  unsent opened name fault result is memory = ([], adds_none opened, rw (is, memory) (inr (refl, refl)))
-
   -- these records were begun, and those wait
   abbrev pub HasBegun : (names waiting : List RecordName) (opened : List (Opening I O))
-      (before told : Option (List Told)) (counts : Counts) (queue : List (Pending I O)) → Type 0
+      (before told : Option (List N)) (counts : Counts) (queue : List (Pending I O)) → Type 0
   HasBegun names waiting opened before told counts queue = (begun : List RecordName) × (names ≡ begun ++ waiting)
       × UnderWay begun opened before told counts queue
 
   -- none has begun
-  pub all_wait : (known : Option (List (Opening I O))) (names : List RecordName) (told : Option (List Told))
+  pub all_wait : (known : Option (List (Opening I O))) (names : List RecordName) (told : Option (List N))
       (counts : Counts) (queue : List (Pending I O)) → counts ≡ no_counts → queue ≡ []
       → Opens known known (λ opened. HasBegun names names opened told told counts queue)
   all_wait known names told counts queue zero none =
@@ -262,10 +274,10 @@ module _ {I O : Type 0} (remaining : I → Option (List ℕ)) (contents : O → 
 
   -- the first that waits has begun
   pub goes_on : (old between new : Option (List (Opening I O))) (names waiting rest : List RecordName)
-      (name : RecordName) (before told after : Option (List Told)) (counts more : Counts)
+      (name : RecordName) (before told after : Option (List N)) (counts more : Counts)
       (queue free later : List (Pending I O)) → waiting ≡ name ∷ rest
       → Opens old between (λ opened. HasBegun names waiting opened before told counts queue)
-      → MakesRoom remaining queue free counts told after (Ok more)
+      → MakesRoom note remaining queue free counts told after (Ok more)
       → Opens between new (λ opened. Sends contents base book name opened free later (Ok tt))
       → Opens old new (λ opened. HasBegun names rest opened before after more later)
   goes_on old between new names waiting rest name before told after counts more queue free later is all room sent =
@@ -282,10 +294,10 @@ module _ {I O : Type 0} (remaining : I → Option (List ℕ)) (contents : O → 
 
   -- a finding couldn't be reported
   pub ends_untold : (old new : Option (List (Opening I O))) (names waiting : List RecordName)
-      (before told after : Option (List Told)) (counts : Counts) (queue : List (Pending I O)) (fault given : RunFault)
+      (before told after : Option (List N)) (counts : Counts) (queue : List (Pending I O)) (fault given : RunFault)
       (result : Result Counts RunFault) → result ≡ Err given → given ≡ fault → IsUntold fault
       → Opens old new (λ opened. HasBegun names waiting opened before told counts queue)
-      → Opens old new (λ opened. ChecksNames remaining contents base book names opened before after result)
+      → Opens old new (λ opened. Checks note remaining contents base book names opened before after result)
   ends_untold old new names waiting before told after counts queue fault given result is same untold all =
       let held = all.2 in
       let ended : ChecksSome remaining contents base book (held.0 ++ waiting) (all.0 ++ []) fault =
@@ -300,12 +312,12 @@ module _ {I O : Type 0} (remaining : I → Option (List ℕ)) (contents : O → 
 
   -- the first that waits couldn't be begun
   pub ends_unsent : (old between new : Option (List (Opening I O))) (names waiting : List RecordName)
-      (before told late after : Option (List Told)) (counts more : Counts) (queue free : List (Pending I O))
+      (before told late after : Option (List N)) (counts more : Counts) (queue free : List (Pending I O))
       (fault given : RunFault) (result : Result Counts RunFault) → result ≡ Err given → given ≡ fault
       → Opens old between (λ opened. HasBegun names waiting opened before told counts queue)
-      → MakesRoom remaining queue free counts told late (Ok more)
+      → MakesRoom note remaining queue free counts told late (Ok more)
       → Opens between new (λ opened. IsUnsent opened fault)
-      → Opens old new (λ opened. ChecksNames remaining contents base book names opened before after result)
+      → Opens old new (λ opened. Checks note remaining contents base book names opened before after result)
   ends_unsent old between new names waiting before told late after counts more queue free fault given result is same all
       room sent =
       let held = all.2 in
@@ -320,25 +332,35 @@ module _ {I O : Type 0} (remaining : I → Option (List ℕ)) (contents : O → 
 
   -- none waits any more
   pub finishes : (old new : Option (List (Opening I O))) (names waiting : List RecordName)
-      (before told after : Option (List Told)) (counts : Counts) (queue : List (Pending I O))
+      (before told after : Option (List N)) (counts : Counts) (queue : List (Pending I O))
       (result : Result Counts RunFault) → waiting ≡ []
       → Opens old new (λ opened. HasBegun names waiting opened before told counts queue)
-      → ReportsRest remaining queue counts told after result
-      → Opens old new (λ opened. ChecksNames remaining contents base book names opened before after result)
+      → ReportsRest note remaining queue counts told after result
+      → Opens old new (λ opened. Checks note remaining contents base book names opened before after result)
   finishes old new names waiting before told after counts queue (Ok more) none all reports =
       let held = all.2 in
       let begun : held.0 ≡ names = sym (held.1 ∙ ap (λ l. held.0 ++ l) none ∙ append-nil held.0) in (
         all.0,
         all.1,
-        subst (λ ns. ChecksEach remaining contents base book ns all.0 before after more) begun
+        subst (λ ns. ChecksEach note remaining contents base book ns all.0 before after more) begun
             (all_reported held.0 all.0 before told after counts more queue held.2 reports),
       )
   finishes old new names waiting before told after counts queue (Err fault) none all untold =
       ends_untold old new names waiting before told after counts queue fault fault (Err fault) refl refl untold all
 
-  -- memory ran out before the first record
-  pub not_begun : (known : Option (List (Opening I O))) (books : BookMap) (before : Option (List Told))
-      (fault given : RunFault) (result : Result Counts RunFault) → result ≡ Err given → given ≡ fault → fault ≡ Memory
-      → Opens known known (λ opened. Checks remaining contents base books opened before before result)
-  not_begun known books before fault given result is same memory =
-      ([], adds_none known, inr (refl, rw (is, same, memory) refl))
+  -- memory ran out after all were reported
+  pub all_begun : (names : List RecordName) (opened : List (Opening I O)) (before after : Option (List N))
+      (counts : Counts) (fault : RunFault)
+      → ChecksEach note remaining contents base book names opened before after counts
+      → fault ≡ Memory → ChecksSome remaining contents base book names opened fault
+  all_begun names opened before after counts fault all memory = record {
+    sent = map sent_of all.checked;
+    rest = [];
+    last = [];
+    names_are = all.names_are ∙ sym (sent_names all.checked)
+        ∙ sym (append-nil (map (λ s. s.name) (map sent_of all.checked)));
+    opened_are = all.opened_are ∙ sym (sent_openings all.checked)
+        ∙ sym (append-nil (flat_map (λ s. s.opened) (map sent_of all.checked)));
+    each = all_sent all.checked all.each;
+    ends = inr (refl, inr memory);
+  }

@@ -1,3 +1,4 @@
 pub mod CheckLemmas
 mod LineLemmas
 pub mod StepLemmas
+pub mod RecheckLemmas

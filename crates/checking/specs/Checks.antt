@@ -28,13 +28,9 @@ use Rattle.checking.specs.declared.counts.Counts.{Counts}
 use Rattle.checking.specs.declared.findings.Finding.{Finding}
 use Rattle.checking.specs.declared.findings.Finding.TheVariants.{Unchecked}
 
--- a record and what was found of it
-abbrev pub Told : Type 0
-Told = RecordName × Finding
-
--- if it is known what was reported before, these records were reported after it
-abbrev pub Tells : (old new : Option (List Told)) → List Told → Type 0
-Tells old new told = Adds old new told
+-- what is noted of the finding of a record
+abbrev pub NotesOf : Type 0 → Type 0
+NotesOf N = RecordName → Finding → List N
 
 -- ---- a record that was begun
 
@@ -83,48 +79,51 @@ counted counts finding (Ok told) = Ok (with_finding counts finding)
 counted counts finding (Err fault) = Err fault
 
 -- a record that was begun has its finding, which was reported and counted
-pub record ReportsOne {I O : Type 0} (remaining : I → Option (List ℕ)) (name : RecordName) (begun : Begun I O)
-    (counts : Counts) (before after : Option (List Told)) (more : Counts) : Type 0 where
+pub record ReportsOne {N I O : Type 0} (note : NotesOf N) (remaining : I → Option (List ℕ))
+    (name : RecordName) (begun : Begun I O) (counts : Counts) (before after : Option (List N)) (more : Counts)
+    : Type 0 where
   pub finding : Finding
   pub found : IsFound remaining begun finding
-  pub told : Tells before after ((name, finding) ∷ [])
+  pub noted : Adds before after (note name finding)
   pub counts_are : more ≡ with_finding counts finding
 
 -- that; or a line couldn't be written, or memory ran out
-abbrev pub Reports : {I O : Type 0} → (I → Option (List ℕ)) → RecordName → Begun I O → Counts
-    → (before after : Option (List Told)) → Result Counts RunFault → Type 0
-Reports remaining name begun counts before after (Ok more) = ReportsOne remaining name begun counts before after more
-Reports remaining name begun counts before after (Err fault) = IsUntold fault
+abbrev pub Reports : {N I O : Type 0} → NotesOf N → (I → Option (List ℕ)) → RecordName → Begun I O
+    → Counts → (before after : Option (List N)) → Result Counts RunFault → Type 0
+Reports note remaining name begun counts before after (Ok more) =
+    ReportsOne note remaining name begun counts before after more
+Reports note remaining name begun counts before after (Err fault) = IsUntold fault
 
 -- ---- records that are under way
 
 -- the first was reported, if there is one
-abbrev pub ReportsFirst : {I O : Type 0} → (I → Option (List ℕ)) → (old new : List (Pending I O)) → Counts
-    → (before after : Option (List Told)) → (more : Counts) → Type 0
-ReportsFirst remaining [] new counts before after more = (new ≡ []) × (after ≡ before) × (more ≡ counts)
-ReportsFirst remaining (p ∷ ps) new counts before after more =
-    (new ≡ ps) × ReportsOne remaining p.name p.begun counts before after more
+abbrev pub ReportsFirst : {N I O : Type 0} → NotesOf N → (I → Option (List ℕ))
+    → (old new : List (Pending I O)) → Counts → (before after : Option (List N)) → (more : Counts) → Type 0
+ReportsFirst note remaining [] new counts before after more = (new ≡ []) × (after ≡ before) × (more ≡ counts)
+ReportsFirst note remaining (p ∷ ps) new counts before after more =
+    (new ≡ ps) × ReportsOne note remaining p.name p.begun counts before after more
 
 -- the first was reported, or none was; or a line couldn't be written, or memory ran out
-abbrev pub MakesRoom : {I O : Type 0} → (I → Option (List ℕ)) → (old new : List (Pending I O)) → Counts
-    → (before after : Option (List Told)) → Result Counts RunFault → Type 0
-MakesRoom remaining old new counts before after (Ok more) =
-    ReportsFirst remaining old new counts before after more
+abbrev pub MakesRoom : {N I O : Type 0} → NotesOf N → (I → Option (List ℕ)) → (old new : List (Pending I O))
+    → Counts → (before after : Option (List N)) → Result Counts RunFault → Type 0
+MakesRoom note remaining old new counts before after (Ok more) =
+    ReportsFirst note remaining old new counts before after more
     ⊎ ((new ≡ old) × (after ≡ before) × (more ≡ counts))
-MakesRoom remaining old new counts before after (Err fault) = IsUntold fault
+MakesRoom note remaining old new counts before after (Err fault) = IsUntold fault
 
 -- all were reported, in their order
-abbrev pub ReportsAll : {I O : Type 0} → (I → Option (List ℕ)) → List (Pending I O) → Counts
-    → (before after : Option (List Told)) → (more : Counts) → Type 0
-ReportsAll remaining [] counts before after more = (after ≡ before) × (more ≡ counts)
-ReportsAll remaining (p ∷ ps) counts before after more = (told : Option (List Told)) × (next : Counts)
-    × ReportsOne remaining p.name p.begun counts before told next × ReportsAll remaining ps next told after more
+abbrev pub ReportsAll : {N I O : Type 0} → NotesOf N → (I → Option (List ℕ)) → List (Pending I O) → Counts
+    → (before after : Option (List N)) → (more : Counts) → Type 0
+ReportsAll note remaining [] counts before after more = (after ≡ before) × (more ≡ counts)
+ReportsAll {N} note remaining (p ∷ ps) counts before after more = (told : Option (List N)) × (next : Counts)
+    × ReportsOne note remaining p.name p.begun counts before told next
+    × ReportsAll note remaining ps next told after more
 
 -- that; or a line couldn't be written, or memory ran out
-abbrev pub ReportsRest : {I O : Type 0} → (I → Option (List ℕ)) → List (Pending I O) → Counts
-    → (before after : Option (List Told)) → Result Counts RunFault → Type 0
-ReportsRest remaining ps counts before after (Ok more) = ReportsAll remaining ps counts before after more
-ReportsRest remaining ps counts before after (Err fault) = IsUntold fault
+abbrev pub ReportsRest : {N I O : Type 0} → NotesOf N → (I → Option (List ℕ)) → List (Pending I O) → Counts
+    → (before after : Option (List N)) → Result Counts RunFault → Type 0
+ReportsRest note remaining ps counts before after (Ok more) = ReportsAll note remaining ps counts before after more
+ReportsRest note remaining ps counts before after (Err fault) = IsUntold fault
 
 -- a record was begun, and is the last of those under way; or nothing was sent
 abbrev pub Sends : {I O : Type 0} → (O → Option (List ℕ)) → List ℕ → Book → RecordName
@@ -148,14 +147,15 @@ pub record Sent (I O : Type 0) : Type 0 where
   pub opened : List (Opening I O)
   pub begun : Begun I O
 
-abbrev pub told_of : {I O : Type 0} → Checked I O → Told
-told_of c = (c.name, c.finding)
-
 abbrev pub names_of : {I O : Type 0} → List (Checked I O) → List RecordName
 names_of cs = map (λ c. c.name) cs
 
 abbrev pub openings_of : {I O : Type 0} → List (Checked I O) → List (Opening I O)
 openings_of cs = flat_map (λ c. c.opened) cs
+
+-- what is noted of all of these
+abbrev pub notes_of : {N I O : Type 0} → NotesOf N → List (Checked I O) → List N
+notes_of note cs = flat_map (λ c. note c.name c.finding) cs
 
 abbrev pub findings_of : {I O : Type 0} → List (Checked I O) → List Finding
 findings_of cs = map (λ c. c.finding) cs
@@ -170,16 +170,6 @@ module _ {I O : Type 0} (remaining : I → Option (List ℕ)) (contents : O → 
   abbrev pub IsSent : Sent I O → Type 0
   IsSent s = IsBegun contents base book s.name s.opened s.begun
 
-  -- each of these records was checked, reported and counted
-  pub record ChecksEach (names : List RecordName) (opened : List (Opening I O)) (before after : Option (List Told))
-      (counts : Counts) : Type 0 where
-    pub checked : List (Checked I O)
-    pub names_are : names ≡ names_of checked
-    pub opened_are : opened ≡ openings_of checked
-    pub each : AllByRecursion IsChecked checked
-    pub told : Tells before after (map told_of checked)
-    pub counts_are : counts ≡ counts_after no_counts (findings_of checked)
-
   -- The records up to some of these were begun, and then the run ended: the next stream couldn't be opened, a line
   -- couldn't be written, or memory ran out
   pub record ChecksSome (names : List RecordName) (opened : List (Opening I O)) (fault : RunFault) : Type 0 where
@@ -191,18 +181,23 @@ module _ {I O : Type 0} (remaining : I → Option (List ℕ)) (contents : O → 
     pub each : AllByRecursion IsSent sent
     pub ends : IsUnsent last fault ⊎ ((last ≡ []) × IsUntold fault)
 
-  abbrev pub ChecksNames : List RecordName → (opened : List (Opening I O)) → (before after : Option (List Told))
-      → Result Counts RunFault → Type 0
-  ChecksNames names opened before after (Ok counts) = ChecksEach names opened before after counts
-  ChecksNames names opened before after (Err fault) = ChecksSome names opened fault
+module _ {N I O : Type 0} (note : NotesOf N) (remaining : I → Option (List ℕ)) (contents : O → Option (List ℕ))
+    (base : List ℕ) (book : Book) where
+  -- each of these records was checked, reported, noted and counted
+  pub record ChecksEach (names : List RecordName) (opened : List (Opening I O)) (before after : Option (List N))
+      (counts : Counts) : Type 0 where
+    pub checked : List (Checked I O)
+    pub names_are : names ≡ names_of checked
+    pub opened_are : opened ≡ openings_of checked
+    pub each : AllByRecursion (IsChecked remaining contents base book) checked
+    pub noted : Adds before after (notes_of note checked)
+    pub counts_are : counts ≡ counts_after no_counts (findings_of checked)
 
--- The records of the connector in the order of a push; or memory ran out before the first of them
-abbrev pub Checks : {I O : Type 0} → (I → Option (List ℕ)) → (O → Option (List ℕ)) → List ℕ → BookMap
-    → (opened : List (Opening I O)) → (before after : Option (List Told)) → Result Counts RunFault → Type 0
-Checks remaining contents base book opened before after result =
-    ((names : List RecordName) × IsSettleOrder (keys book) names
-    × ChecksNames remaining contents base (book_of book) names opened before after result)
-    ⊎ ((opened ≡ []) × (result ≡ Err Memory))
+  -- that; or a fault ended the run
+  abbrev pub Checks : List RecordName → (opened : List (Opening I O)) → (before after : Option (List N))
+      → Result Counts RunFault → Type 0
+  Checks names opened before after (Ok counts) = ChecksEach names opened before after counts
+  Checks names opened before after (Err fault) = ChecksSome remaining contents base book names opened fault
 
 -- ---- the printed run
 
@@ -212,9 +207,16 @@ Concludes (Ok counts) (Ok given) = given ≡ counts
 Concludes (Ok counts) (Err fault) = IsUntold fault
 Concludes (Err cause) result = result ≡ Err cause
 
--- a run and its last line, if it isn't known which streams were opened before, and what was reported before
+-- what is printed isn't noted
+abbrev pub nothing_noted : NotesOf (Unit {0})
+nothing_noted name finding = []
+
+-- the records of a connector were checked in the order of a push, and the last line was printed; or memory ran out
+-- before the first of them. It isn't known which streams were opened before
 abbrev pub ChecksAloud : {I O : Type 0} → (I → Option (List ℕ)) → (O → Option (List ℕ)) → List ℕ
     → BookMap → Result Counts RunFault → Type 0
-ChecksAloud {I} {O} remaining contents base book result = (opened : List (Opening I O))
-    × (checked : Result Counts RunFault) × Checks remaining contents base book opened None None checked
-    × Concludes checked result
+ChecksAloud {I} {O} remaining contents base book result = ((names : List RecordName) × (opened : List (Opening I O))
+    × (checked : Result Counts RunFault) × IsSettleOrder (keys book) names
+    × Checks nothing_noted remaining contents base (book_of book) names opened None None checked
+    × Concludes checked result)
+    ⊎ (result ≡ Err Memory)

@@ -1,5 +1,6 @@
 -- What is asked about a record, and what the answer says of it.
-use Rattle.std.specs.Prelude.{◌==◌, ℕ, Bool, true, false, not, List, [], ◌∷◌, Option, Some, None, Result, Ok, Err, if◌then◌else◌}
+use Rattle.std.specs.Prelude.{◌==◌, ◌&&◌, ℕ, Bool, true, false, not, List, [], ◌∷◌, Option, Some, None, Result, Ok, Err, if◌then◌else◌}
+use Rattle.std.specs.Str.{bytes_eq}
 use Rattle.scim_key.specs.Records.{same_name}
 use Rattle.scim_key.specs.Revisions.{RevisionValue, before}
 use Rattle.scim_key.specs.declared.records.RecordName.{RecordName}
@@ -17,9 +18,9 @@ use Rattle.connector_core.specs.Asking.{search_for}
 use Rattle.connector_core.specs.Book.{Book, known_id, wanted_row}
 use Rattle.connector_core.specs.Changing.{member_at}
 use Rattle.provisioning.specs.declared.faults.RecordFault.TheVariants.{NoSuchRecord, Refused, Unanswered, Unfit}
-use Rattle.checking.specs.Aspects.{agrees, is_in_step}
-use Rattle.checking.specs.declared.aspects.Aspect.TheVariants.{Active}
-use Rattle.checking.specs.declared.aspects.Beside.{Beside}
+use Rattle.comparing.specs.Aspects.{agree, is_same}
+use Rattle.comparing.specs.declared.aspects.Aspect.TheVariants.{Active}
+use Rattle.checking.specs.declared.beside.Beside.{Beside}
 use Rattle.checking.specs.declared.findings.Finding.{Finding}
 use Rattle.checking.specs.declared.findings.Finding.TheVariants.{Found, Above, Gone, Unchecked}
 use Rattle.checking.specs.declared.looking.Hindrance.{Hindrance}
@@ -44,6 +45,16 @@ looking_at id_of name (Some row) = looking_with (id_of name) row (imaged id_of r
 -- sent
 abbrev pub looking : Book → RecordName → Result Look Hindrance
 looking book name = looking_at (known_id book) name (wanted_row book name)
+
+-- ---- whether a resource is as it is wanted
+
+abbrev pub same_id : (known : Option (List ℕ)) → (id : List ℕ) → Bool
+same_id None id = false
+same_id (Some known) id = bytes_eq known id
+
+-- its content is what is wanted, and its id is the known one
+abbrev pub is_in_step : Beside → Bool
+is_in_step b = is_same b.wanted b.found.content && same_id b.known b.found.id
 
 -- ---- what the answer says
 
@@ -104,7 +115,7 @@ is_differing (Unchecked why) = false
 -- is unchecked
 abbrev pub is_printed : (quiet : Bool) → Finding → Bool
 is_printed false (Found b) = not (is_in_step b)
-is_printed true (Found b) = not (agrees b Active)
+is_printed true (Found b) = not (agree b.wanted b.found.content Active)
 is_printed quiet (Above b) = not quiet
 is_printed quiet Gone = not quiet
 is_printed quiet (Unchecked why) = true

@@ -8,17 +8,19 @@ use Rattle.scim_key.specs.declared.records.Kind.{Kind}
 use Rattle.scim_key.specs.declared.records.Kind.TheVariants as kinds
 use Rattle.scim_key.specs.declared.records.RecordName.{RecordName}
 use Rattle.scim_resource.specs.Contents.{content_kind, content_revision, spelled_name}
+use Rattle.scim_resource.specs.declared.contents.Content.{Content}
 use Rattle.scim_resource.specs.declared.emails.Email.{Email}
 use Rattle.scim_resource.specs.declared.user_texts.UserText.{UserText}
 use Rattle.scim_resource.specs.declared.user_texts.UserText.TheVariants as texts
 use Rattle.journal_core.specs.Printable.{printable_text}
 use Rattle.journal_core.specs.Words.{kind_word}
 use Rattle.provisioning.specs.Lines.{record_fault_text}
-use Rattle.checking.specs.Aspects.{agrees, content_emails, content_text, is_active, missing, surplus}
-use Rattle.checking.specs.declared.aspects.Aspect.{Aspect}
-use Rattle.checking.specs.declared.aspects.Aspect.TheVariants as aspect
-use Rattle.checking.specs.declared.aspects.Beside.{Beside}
-use Rattle.checking.specs.declared.aspects.TheConstants.{ASPECTS}
+use Rattle.comparing.specs.Aspects.{agree, content_emails, content_text, is_active, is_same, missing, surplus}
+use Rattle.comparing.specs.declared.aspects.Aspect.{Aspect}
+use Rattle.comparing.specs.declared.aspects.Aspect.TheVariants as aspect
+use Rattle.comparing.specs.declared.aspects.TheConstants.{ASPECTS}
+use Rattle.checking.specs.Findings.{same_id}
+use Rattle.checking.specs.declared.beside.Beside.{Beside}
 use Rattle.checking.specs.declared.counts.Counts.{Counts}
 use Rattle.checking.specs.declared.findings.Finding.{Finding}
 use Rattle.checking.specs.declared.findings.Finding.TheVariants.{Found, Above, Gone, Unchecked}
@@ -90,20 +92,18 @@ members_text missing surplus =
     codes "members: " ++ (decimal missing ++ (codes " missing, " ++ (decimal surplus ++ codes " more")))
 
 -- How a difference in this aspect is printed
-abbrev pub difference_text : Beside → Aspect → List ℕ
-difference_text b aspect.Active =
-    sides_text (codes "active") (flag_text (is_active b.found.content)) (flag_text (is_active b.wanted))
-difference_text b aspect.Name = sides_text (name_label (content_kind b.wanted))
-    (quoted (spelled_name b.found.content)) (quoted (spelled_name b.wanted))
-difference_text b (aspect.Text which) = sides_text (text_label which)
-    (quoted_if (content_text which b.found.content)) (quoted_if (content_text which b.wanted))
-difference_text b aspect.Emails = sides_text (codes "emails")
-    (emails_text (content_emails b.found.content)) (emails_text (content_emails b.wanted))
-difference_text b aspect.Members = members_text (missing b) (surplus b)
-difference_text b aspect.Revision = sides_text (codes "revision")
-    (revision_if (content_revision b.found.content)) (revision_if (content_revision b.wanted))
-difference_text b aspect.Id =
-    codes "id: " ++ (printable_text b.found.id ++ (codes ", known " ++ id_if b.known))
+abbrev pub difference_text : (wanted found : Content) → Aspect → List ℕ
+difference_text wanted found aspect.Active =
+    sides_text (codes "active") (flag_text (is_active found)) (flag_text (is_active wanted))
+difference_text wanted found aspect.Name =
+    sides_text (name_label (content_kind wanted)) (quoted (spelled_name found)) (quoted (spelled_name wanted))
+difference_text wanted found (aspect.Text which) = sides_text (text_label which)
+    (quoted_if (content_text which found)) (quoted_if (content_text which wanted))
+difference_text wanted found aspect.Emails =
+    sides_text (codes "emails") (emails_text (content_emails found)) (emails_text (content_emails wanted))
+difference_text wanted found aspect.Members = members_text (missing wanted found) (surplus wanted found)
+difference_text wanted found aspect.Revision = sides_text (codes "revision")
+    (revision_if (content_revision found)) (revision_if (content_revision wanted))
 
 -- what is in front of a difference
 abbrev pub separator : (first : Bool) → List ℕ
@@ -111,10 +111,16 @@ separator true = codes " "
 separator false = codes "; "
 
 -- The differences in these aspects; the first may have others in front
-unfoldable pub differences_text : Beside → (first : Bool) → List Aspect → List ℕ
-differences_text b first [] = []
-differences_text b first (a ∷ more) = if agrees b a then differences_text b first more
-    else separator first ++ (difference_text b a ++ differences_text b false more)
+unfoldable pub differences_text : (wanted found : Content) → (first : Bool) → List Aspect → List ℕ
+differences_text wanted found first [] = []
+differences_text wanted found first (a ∷ more) = if agree wanted found a then differences_text wanted found first more
+    else separator first ++ (difference_text wanted found a ++ differences_text wanted found false more)
+
+-- another id than the known one, behind what differs of the content
+abbrev pub other_id_text : Beside → List ℕ
+other_id_text b = if same_id b.known b.found.id then []
+    else separator (is_same b.wanted b.found.content)
+    ++ (codes "id: " ++ (printable_text b.found.id ++ (codes ", known " ++ id_if b.known)))
 
 -- ---- the line of a record
 
@@ -130,15 +136,18 @@ above_text b = codes ": revision " ++ (revision_if (content_revision b.found.con
 
 -- What is printed of a finding behind the record's name
 abbrev pub finding_text : Finding → List ℕ
-finding_text (Found b) = differences_text b true ASPECTS
+finding_text (Found b) = differences_text b.wanted b.found.content true ASPECTS ++ other_id_text b
 finding_text (Above b) = above_text b
 finding_text Gone = codes ": gone"
 finding_text (Unchecked why) = codes ": unchecked " ++ hindrance_text why
 
+-- a record and its finding
+abbrev pub record_text : RecordName → Finding → List ℕ
+record_text name finding = kind_word name.kind ++ (codes " " ++ (name.key ++ finding_text finding))
+
 -- the line of a record
 abbrev pub finding_line : RecordName → Finding → List ℕ
-finding_line name finding =
-    kind_word name.kind ++ (codes " " ++ (name.key ++ (finding_text finding ++ codes "\n")))
+finding_line name finding = record_text name finding ++ codes "\n"
 
 -- ---- the last line
 

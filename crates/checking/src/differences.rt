@@ -1,32 +1,58 @@
 //! The text of what differs.
-ghost use Rattle.std.specs.Prelude.{◌≡◌, Some, true};
+ghost use Rattle.std.specs.Prelude.{◌≡◌, ◌++◌, Some, true};
 ghost use Rattle.std.specs.Option.{option_copied};
-ghost use Rattle.checking.specs.Lines.{difference_text, differences_text, email_text, emails_text, flag_text, id_if, more_text, name_label, primary_text, quoted_if, revision_if, separator, sides_text, text_label, type_text};
+ghost use Rattle.comparing.specs.declared.aspects.TheConstants.{ASPECTS};
+ghost use Rattle.checking.specs.Lines.{difference_text, differences_text, email_text, emails_text, flag_text, id_if, more_text, name_label, other_id_text, primary_text, quoted_if, revision_if, separator, sides_text, text_label, type_text};
 
-use crate::aspects::{Aspect, Beside, content_emails, content_text, is_active};
+use crate::beside::Beside;
+use comparing::{
+    ASPECTS, Aspect, agree, content_emails, content_text, is_active, is_as_wanted, missing, surplus,
+};
 use journal_core::Printable;
 use scim_key::{Kind, ResourceId, Revision};
-use scim_resource::{Email, UserText};
+use scim_resource::{Content, Email, UserText};
 use std::fmt;
 
-/// What differs in these aspects, a text for each, with `; ` between two.
+/// What differs of a resource, a text for each aspect, with `; ` between two, and another id last.
 #[derive(Clone, Copy)]
-pub(crate) struct Differences<'a> {
-    pub beside: &'a Beside,
-    pub aspects: &'a [Aspect],
-}
+pub(crate) struct Differences<'a>(pub &'a Beside);
 
 impl<'a> fmt::Display for Differences<'a> {
-    ghost output = { λ it. Some (differences_text it.beside.now true it.aspects.now) };
+    ghost output = { λ it. Some
+        (differences_text it.0.now.wanted it.0.now.found.content true ASPECTS ++ other_id_text it.0.now) };
 
     fn fmt<W: fmt::Write>(&self, f: &mut fmt::Formatter<W>) -> fmt::Result {
+        let beside = self.0;
+        let contents = InAspects {
+            wanted: &beside.wanted,
+            found: beside.found.content(),
+            aspects: &ASPECTS,
+        };
+        write!(f, "{contents}{}", OtherId(beside))
+    }
+}
+
+/// What differs of a content in these aspects.
+#[derive(Clone, Copy)]
+struct InAspects<'a> {
+    wanted: &'a Content,
+    found: &'a Content,
+    aspects: &'a [Aspect],
+}
+
+impl<'a> fmt::Display for InAspects<'a> {
+    ghost output = { λ it. Some (differences_text it.wanted.now it.found.now true it.aspects.now) };
+
+    fn fmt<W: fmt::Write>(&self, f: &mut fmt::Formatter<W>) -> fmt::Result {
+        let (wanted, found) = (self.wanted, self.found);
         let mut is_first = true;
         for aspect in self.aspects {
-            if self.beside.agrees(*aspect) {
+            if agree(wanted, found, *aspect) {
                 continue;
             }
             let difference = Difference {
-                beside: self.beside,
+                wanted,
+                found,
                 aspect: *aspect,
             };
             write!(f, "{}{difference}", separator(is_first))?;
@@ -43,18 +69,42 @@ fn separator(is_first: bool) -> &'static str
     if is_first { " " } else { "; " }
 }
 
+/// Another id than the known one: `id: 9, known 4`.
+#[derive(Clone, Copy)]
+struct OtherId<'a>(&'a Beside);
+
+impl<'a> fmt::Display for OtherId<'a> {
+    ghost output = { λ it. Some (other_id_text it.0.now) };
+
+    fn fmt<W: fmt::Write>(&self, f: &mut fmt::Formatter<W>) -> fmt::Result {
+        let beside = self.0;
+        if beside.has_known_id() {
+            return Ok(());
+        }
+        let is_first = is_as_wanted(&beside.wanted, beside.found.content());
+        let found = Printable(beside.found.id().as_str().as_bytes());
+        write!(
+            f,
+            "{}id: {found}, known {}",
+            separator(is_first),
+            IdIf(&beside.known)
+        )
+    }
+}
+
 /// A difference in one aspect: `active: true, wanted false`.
 #[derive(Clone, Copy)]
 struct Difference<'a> {
-    beside: &'a Beside,
+    wanted: &'a Content,
+    found: &'a Content,
     aspect: Aspect,
 }
 
 impl<'a> fmt::Display for Difference<'a> {
-    ghost output = { λ it. Some (difference_text it.beside.now it.aspect) };
+    ghost output = { λ it. Some (difference_text it.wanted.now it.found.now it.aspect) };
 
     fn fmt<W: fmt::Write>(&self, f: &mut fmt::Formatter<W>) -> fmt::Result {
-        let (wanted, found) = (&self.beside.wanted, self.beside.found.content());
+        let (wanted, found) = (self.wanted, self.found);
         match self.aspect {
             Aspect::Active => {
                 let (found, wanted) = (is_active(found), is_active(wanted));
@@ -80,7 +130,7 @@ impl<'a> fmt::Display for Difference<'a> {
                 )
             }
             Aspect::Members => {
-                let (missing, surplus) = (self.beside.missing(), self.beside.surplus());
+                let (missing, surplus) = (missing(wanted, found), surplus(wanted, found));
                 write!(f, "members: {missing} missing, {surplus} more")
             }
             Aspect::Revision => {
@@ -91,10 +141,6 @@ impl<'a> fmt::Display for Difference<'a> {
                     RevisionIf(found),
                     RevisionIf(wanted)
                 )
-            }
-            Aspect::Id => {
-                let found = Printable(self.beside.found.id().as_str().as_bytes());
-                write!(f, "id: {found}, known {}", IdIf(&self.beside.known))
             }
         }
     }

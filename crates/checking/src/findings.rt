@@ -4,9 +4,11 @@ ghost use Rattle.scim_key.specs.Records.{same_name};
 ghost use Rattle.scim_resource.specs.Contents.{content_name};
 ghost use Rattle.provisioning.specs.declared.faults.RunFault.TheVariants.{Memory};
 ghost use Rattle.checking.specs.Findings.{answered, finding_beside, finding_of, is_above, is_differing, is_printed, is_unchecked, listed};
+ghost use Rattle.checking.specs.Rechecks.{finds_in_step, finds_leaver, finds_other_id};
 
-use crate::aspects::{Aspect, Beside};
+use crate::beside::Beside;
 use crate::looking::Hindrance;
+use comparing::{Aspect, agree, is_active};
 use provisioning::{RecordFault, RunFault};
 use scim_client::{AnswerFault, ExchangeFault};
 use scim_key::ResourceId;
@@ -50,6 +52,39 @@ impl Finding {
         matches!(self, Finding::Unchecked(_))
     }
 
+    /// Whether what was found is what is wanted.
+    pub fn is_in_step(&self) -> bool
+        ensures { result ≡ finds_in_step self.now }
+    {
+        match self {
+            Finding::Found(beside) => beside.is_in_step(),
+            Finding::Above(_) | Finding::Gone | Finding::Unchecked(_) => false,
+        }
+    }
+
+    /// Whether the account is active, and shouldn't be.
+    pub fn is_leaver(&self) -> bool
+        ensures { result ≡ finds_leaver self.now }
+    {
+        match self {
+            Finding::Found(beside) => {
+                is_active(beside.found.content()) && !is_active(&beside.wanted)
+            }
+            Finding::Above(_) | Finding::Gone | Finding::Unchecked(_) => false,
+        }
+    }
+
+    /// Whether the id that the connector knows may not be the resource's.
+    pub fn has_other_id(&self) -> bool
+        ensures { result ≡ finds_other_id self.now }
+    {
+        match self {
+            Finding::Found(beside) => !beside.has_known_id(),
+            Finding::Above(_) => false,
+            Finding::Gone | Finding::Unchecked(_) => true,
+        }
+    }
+
     /// Whether what was found isn't what is wanted.
     pub fn is_differing(&self) -> bool
         ensures { result ≡ is_differing self.now }
@@ -66,7 +101,9 @@ impl Finding {
         ensures { result ≡ is_printed is_quiet self.now }
     {
         match self {
-            Finding::Found(beside) if is_quiet => !beside.agrees(Aspect::Active),
+            Finding::Found(beside) if is_quiet => {
+                !agree(&beside.wanted, beside.found.content(), Aspect::Active)
+            }
             Finding::Found(beside) => !beside.is_in_step(),
             Finding::Above(_) | Finding::Gone => !is_quiet,
             Finding::Unchecked(_) => true,

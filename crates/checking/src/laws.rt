@@ -1,8 +1,8 @@
 //! Laws of the definitions, with nothing to run.
 ghost use Rattle.checking.specs.Laws.{InStepMeans};
 
-/// A resource agrees with what is wanted in every aspect exactly if its content is the image of the wanted row, but for
-/// the order of members, and its id is the known one.
+/// A resource is in step exactly if its content is the image of the wanted row, but for the order of members, and its id
+/// is the known one.
 pub fn in_step_means()
     ensures { InStepMeans }
 {}

@@ -1,15 +1,17 @@
 //! The check against the provider at an address.
 ghost use Rattle.checking.specs.Checks.{ChecksAloud, Concludes};
+ghost use Rattle.checking.specs.Rechecks.{RechecksAt};
 
 use crate::counts::Counts;
-use crate::lines::FindingLines;
+use crate::lines::{FindingLines, FindingNotices};
+use crate::rechecking::recheck_all;
 use crate::running::check_all;
 use connector_core::Connector;
 use journal_core::Journal;
-use provisioning::{Remote, RunFault, unwritten};
+use provisioning::{Remote, RunFault, names_in_order, unwritten};
 use scim_client::ScimService;
 use std::alloc::Global;
-use std::io::{Read, Write};
+use std::io::{Eprint, Read, Write};
 use std::net::Net;
 use std::time::Clock;
 use timed_streams::TimedHandle;
@@ -29,10 +31,37 @@ pub fn check<'a, N: Net + Clock, J: Journal, W: Write>(
     ensures { ChecksAloud ⟦<TimedHandle<'a, N::Stream, N> as Read>⟧.remaining
         ⟦<TimedHandle<'a, N::Stream, N> as Write>⟧.contents service.now connector.now.book result }
 {
+    let names = names_in_order(connector)?;
     let mut dial = Remote::new(alloc, rt, address);
     let mut lines = FindingLines { out, is_quiet };
-    let counts = check_all(alloc, service, connector, &mut dial, &mut lines, streams);
+    let counts = check_all(
+        alloc, service, connector, &mut dial, &mut lines, names, streams,
+    );
     concluded(counts, lines)
+}
+
+/// Asks the provider at an address about each record whose wanted revision is confirmed, and reports what differs or is
+/// unchecked on standard error, in a quiet run less. The connector doubts that from then on, and each record that wasn't
+/// asked about. Returns of how many records the account is active, and shouldn't be.
+pub fn recheck<'a, N: Net + Clock + Eprint, J: Journal>(
+    rt: &'a N,
+    alloc: Global,
+    service: &ScimService,
+    connector: &mut Connector<J>,
+    is_quiet: bool,
+    streams: u32,
+    address: &str,
+) -> Result<usize, RunFault>
+    ensures { RechecksAt ⟦<TimedHandle<'a, N::Stream, N> as Read>⟧.remaining
+        ⟦<TimedHandle<'a, N::Stream, N> as Write>⟧.contents service.now
+        connector.old connector.new result }
+{
+    let mut dial = Remote::new(alloc, rt, address);
+    let notices = FindingNotices {
+        stderr: rt,
+        is_quiet,
+    };
+    recheck_all(alloc, service, connector, &mut dial, notices, streams)
 }
 
 /// Prints the counts of a run that no fault ended.

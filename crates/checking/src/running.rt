@@ -1,9 +1,10 @@
 //! The check of every record.
-ghost use Rattle.std.specs.Prelude.{◌≡◌, ◌∷◌, [], IfErr, OnOk};
+ghost use Rattle.std.specs.Prelude.{◌≡◌, IfErr, OnOk};
 ghost use Rattle.connector_core.specs.Maps.{book_of};
+ghost use Rattle.provisioning.specs.Lists.{Adds};
 ghost use Rattle.provisioning.specs.Openings.{Opens};
 ghost use Rattle.provisioning.specs.Runs.{IsUntold};
-ghost use Rattle.checking.specs.Checks.{Checks, ChecksNames, MakesRoom, Reports, ReportsRest, Sends, Tells, counted};
+ghost use Rattle.checking.specs.Checks.{Checks, MakesRoom, Reports, ReportsRest, Sends, counted};
 
 use crate::begun::{Pending, begin, finish};
 use crate::counts::Counts;
@@ -11,28 +12,28 @@ use crate::findings::Finding;
 use crate::telling::TellFinding;
 use connector_core::Connector;
 use journal_core::Journal;
-use provisioning::{Dial, RunFault, names_in_order, unwritten};
+use provisioning::{Dial, RunFault, unwritten};
 use scim_client::ScimService;
 use scim_key::RecordName;
 use std::alloc::Global;
 use std::collections::VecDeque;
 
-/// Asks about every record by one search, on a stream of its own, users by key and then groups by key, and reports the
-/// finding of each in this order. Up to `streams` are under way at once. It changes nothing. The run ends early if a
-/// stream can't be opened, a finding can't be reported, or memory runs out.
+/// Asks about each of these records by one search, on a stream of its own, and reports the finding of each in this order.
+/// Up to `streams` are under way at once. It changes nothing. The run ends early if a stream can't be opened, a finding
+/// can't be reported, or memory runs out.
 pub fn check_all<J: Journal, D: Dial, T: TellFinding>(
     alloc: Global,
     service: &ScimService,
     connector: &Connector<J>,
     dial: &mut D,
     teller: &mut T,
+    names: Vec<RecordName>,
     streams: u32,
 ) -> Result<Counts, RunFault>
-    ensures { Opens (D.opened dial.old) (D.opened dial.new) (λ opened. Checks
-        D.Reader.remaining D.Writer.contents service.now connector.now.book opened
-        (T.told teller.old) (T.told teller.new) result) }
+    ensures { Opens (D.opened dial.old) (D.opened dial.new) (λ opened. Checks T.note
+        D.Reader.remaining D.Writer.contents service.now (book_of connector.now.book) names.items opened
+        (T.noted teller.old) (T.noted teller.new) result) }
 {
-    let names = names_in_order(connector)?;
     let waiting = VecDeque::from_vec(names);
     check_names(
         alloc,
@@ -55,9 +56,9 @@ fn check_names<J: Journal, D: Dial, T: TellFinding>(
     mut waiting: VecDeque<RecordName>,
     streams: usize,
 ) -> Result<Counts, RunFault>
-    ensures { Opens (D.opened dial.old) (D.opened dial.new) (λ opened. ChecksNames
+    ensures { Opens (D.opened dial.old) (D.opened dial.new) (λ opened. Checks T.note
         D.Reader.remaining D.Writer.contents service.now (book_of connector.now.book) waiting.items opened
-        (T.told teller.old) (T.told teller.new) result) }
+        (T.noted teller.old) (T.noted teller.new) result) }
 {
     let mut counts = Counts::new();
     let mut under_way = VecDeque::new(alloc);
@@ -77,8 +78,8 @@ fn make_room<D: Dial, T: TellFinding>(
     streams: usize,
     counts: Counts,
 ) -> Result<Counts, RunFault>
-    ensures { MakesRoom D.Reader.remaining under_way.old.items under_way.new.items counts
-        (T.told teller.old) (T.told teller.new) result }
+    ensures { MakesRoom T.note D.Reader.remaining under_way.old.items under_way.new.items counts
+        (T.noted teller.old) (T.noted teller.new) result }
 {
     if under_way.len() < streams {
         return Ok(counts);
@@ -116,8 +117,8 @@ fn report_rest<D: Dial, T: TellFinding>(
     mut under_way: VecDeque<Pending<D::Reader, D::Writer>>,
     mut counts: Counts,
 ) -> Result<Counts, RunFault>
-    ensures { ReportsRest D.Reader.remaining under_way.items counts (T.told teller.old)
-        (T.told teller.new) result }
+    ensures { ReportsRest T.note D.Reader.remaining under_way.items counts (T.noted teller.old)
+        (T.noted teller.new) result }
 {
     while let Some(first) = under_way.pop_front() {
         counts = report(alloc, dial, teller, first, counts)?;
@@ -133,8 +134,8 @@ fn report<D: Dial, T: TellFinding>(
     pending: Pending<D::Reader, D::Writer>,
     counts: Counts,
 ) -> Result<Counts, RunFault>
-    ensures { Reports D.Reader.remaining pending.name pending.begun counts (T.told teller.old)
-        (T.told teller.new) result }
+    ensures { Reports T.note D.Reader.remaining pending.name pending.begun counts (T.noted teller.old)
+        (T.noted teller.new) result }
 {
     let Pending { name, begun } = pending;
     let finding = finish(alloc, dial, begun)?;
@@ -162,8 +163,8 @@ fn tell<T: TellFinding>(
     name: &RecordName,
     finding: &Finding,
 ) -> Result<(), RunFault>
-    ensures told { OnOk result
-        (Tells (T.told teller.old) (T.told teller.new) ((name.now, finding.now) ∷ [])) }
+    ensures noted { OnOk result
+        (Adds (T.noted teller.old) (T.noted teller.new) (T.note name.now finding.now)) }
     ensures fault { IfErr result IsUntold }
 {
     match teller.tell(name, finding) {
