@@ -1,6 +1,6 @@
 -- Looks at connections in turn.
 use Rattle.std.proofs.Common.{inl, inr, ◌≡◌, ◌⊎◌, ◌+◌, ◌∷◌, [], ◌≤◌, ◌<◌, ℕ, suc, List, Option, Some, None, Bool, true, false, length, refl, sym, ap, subst, ◌∙◌, drop, slice_index_or, slice_set, arith}
-use Rattle.std.specs.Prelude.{if◌then◌else◌}
+use Rattle.std.specs.Prelude.{if◌then◌else◌, ⊤}
 use Rattle.std.specs.List.{remove}
 use Rattle.std.proofs.lemmas.Bool.{cases_lt}
 use Rattle.std.proofs.lemmas.List.{get_or-set_other, get_or-set_same, get_or_default, get_or_read, length-set}
@@ -16,10 +16,13 @@ use Rattle.connection.specs.declared.held.Arrival.TheVariants.{Bytes, Nothing, L
 use Rattle.connection.specs.declared.received.Received.{Received}
 use Rattle.connection.specs.declared.waiting.Waiting.{Waiting}
 use Rattle.connection.specs.Arriving.{Waits}
-use Rattle.connection.specs.Holding.{ArePassed, GivesUp, HasCome, IsDue, IsLookedAtBy, IsNoted, IsPassed, IsSame, Looks, LooksAt, MovesUp, Notes, NotesAt, TakesFirst, is_time, looks_before}
-use Rattle.connection.specs.Memory.{size_of}
+use Rattle.connection.specs.declared.leaving.Leaver.{Leaver}
+use Rattle.connection.specs.declared.leaving.Leaver.TheVariants.{Nobody, Ready, Closed}
+use Rattle.connection.specs.Holding.{ArePassed, GivesUp, GivesUpFor, HasCome, Holds, IsDue, IsLargest, IsLookedAtBy, IsNoted, IsPassed, IsSame, Leaves, Looks, LooksAt, Notes, NotesAt, StaysThere, TakesFirst, is_time, looks_before}
+use Rattle.connection.specs.Leaving.{FreesMemory, LooksApartAt, LooksLast, Places, Releases}
+use Rattle.connection.specs.Memory.{memory_of, size_of}
 
-some_of : {X : Type 0} (n : ℕ) (xs : List X) → n < length xs → X
+pub some_of : {X : Type 0} (n : ℕ) (xs : List X) → n < length xs → X
 some_of n [] there = absurd (let none : n < 0 = there in omega (arith, none))
 some_of n (x ∷ xs) there = x
 
@@ -195,20 +198,79 @@ waits_on old mid new Bytes come other same = inr (subst (λ (bytes : List ℕ). 
 waits_on old mid new Nothing come other same = inl (same ∙ come)
 waits_on old mid new Last come other same = absurd (other refl)
 
--- the first one was taken out
-first_left : {S : Type 0} → (now : Instant) (old new : Waiting S) (items : List (Held S)) → old.connections.items ≡ items → IsDue items now
-    → IsDue old.connections.items now → new.connections.items ≡ drop 1 items → MovesUp old new → GivesUp now old new
-first_left now old new [] are some due rest moves = absurd some
-first_left now old new (oldest ∷ others) are some due rest moves = record {
-  oldest = oldest;
-  were = are ∙ ap (λ (l : List (Held _)). oldest ∷ l) (sym rest);
-  due = due;
-  moves = moves;
-}
+-- ---- who leaves to make room
 
-pub gave_up : {S : Type 0} → (now : Instant) (old new : Waiting S) → IsDue old.connections.items now
-    → new.connections.items ≡ drop 1 old.connections.items → MovesUp old new → GivesUp now old new
-gave_up now old new due rest moves = first_left now old new old.connections.items refl due due rest moves
+-- the one that an option has, or another
+abbrev held_or : {X : Type 0} → X → Option X → X
+held_or other None = other
+held_or other (Some x) = x
+
+abbrev is_some : {X : Type 0} → Option X → Type 0
+is_some None = ⊥
+is_some (Some x) = ⊤
+
+pub none_is_some : {X : Type 0} {x : X} → None ≡ Some x → ⊥
+none_is_some is = subst is_some (sym is) tt
+
+module _ {S : Type 0} (remaining : S → Option (List ℕ)) where
+  -- the oldest left after one look more
+  pub released : (now : Instant) (old new : Waiting S) (gives : GivesUp now old new) (leaver : Leaver S)
+      → LooksLast remaining gives.oldest leaver → Releases remaining now old new leaver
+  released now old new gives Nobody looks = absurd looks
+  released now old new gives (Ready held) looks = (gives, looks)
+  released now old new gives Closed looks = (gives, looks)
+
+  -- and another one has its place
+  abbrev took_place : (held : Held S) (now : Instant) (old mid new : Waiting S) → GivesUp now old mid → Holds held mid new
+      → GivesUpFor held now old new
+  took_place held now old mid new gives holds = record {
+    oldest = gives.oldest;
+    others = mid.connections.items;
+    were = gives.were;
+    are = holds.are;
+    due = gives.due;
+    moves = record { next = holds.stays.next ∙ gives.moves.next; end = holds.stays.end ∙ gives.moves.end };
+  }
+
+  pub replaced : (most : ℕ) (held : Held S) (now : Instant) (old mid new : Waiting S) (is_tight : Type 0) (leaver : Leaver S)
+      → IsDue old.connections.items now → Releases remaining now old mid leaver → Holds held mid new
+      → Places remaining most held now old new is_tight leaver
+  replaced most held now old mid new is_tight Nobody due releases holds = absurd (releases.1 due)
+  replaced most held now old mid new is_tight (Ready oldest) due releases holds =
+      (took_place held now old mid new releases.0 holds, releases.1)
+  replaced most held now old mid new is_tight Closed due releases holds =
+      inr (took_place held now old mid new releases.0 holds, releases.1)
+
+  -- the largest left after one look more
+  pub freed : (most others place : ℕ) (old new : Waiting S) (largest : Held S) (leaver : Leaver S) (found : Option (Held S))
+      → most < others + memory_of old.connections.items → IsLargest old.connections.items place → Leaves place old new
+      → found ≡ Some largest → ((d : Held S) → found ≡ Some (slice_index_or old.connections.items place d))
+      → LooksLast remaining largest leaver → FreesMemory remaining most others old new leaver
+  freed most others place old new largest Nobody found more is leaves it at looks = absurd looks
+  freed most others place old new largest (Ready held) found more is leaves it at looks = (
+    more,
+    (
+      (place, is, leaves),
+      λ d. subst (λ (h : Held S). Looks remaining h held true) (ap (held_or largest) (sym it ∙ at d)) looks,
+    ),
+  )
+  freed most others place old new largest Closed found more is leaves it at looks = (
+    more,
+    (
+      (place, is, leaves),
+      λ d. looks,
+    ),
+  )
+
+  -- one was looked at outside of the rounds, and left
+  pub took_apart : (now : Instant) (place : ℕ) (old seen new : Waiting S) (found : Option (Held S))
+      → LooksAt remaining place old.connections.items seen.connections.items true → StaysThere old seen → Leaves place seen new
+      → ((d : Held S) → found ≡ Some (slice_index_or seen.connections.items place d)) → LooksApartAt remaining now place old new found
+  took_apart now place old seen new None looks stays leaves at =
+      let d : Held S = some_of place seen.connections.items leaves.there in
+      absurd (none_is_some (at d))
+  took_apart now place old seen new (Some held) looks stays leaves at =
+      (seen, looks, stays, leaves, λ d. ap (held_or held) (at d))
 
 -- ---- what may have come
 

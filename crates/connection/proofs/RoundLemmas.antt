@@ -2,14 +2,15 @@
 use Rattle.std.proofs.Common.{inl, inr, ◌≡◌, ◌⊎◌, ◌+◌, ◌-◌, ◌∷◌, [], ◌++◌, ◌≤◌, ◌<◌, ℕ, zero, suc, List, Option, Some, None, length, sym, ap, subst, ◌∙◌, slice_index_or, nat_lt, length-append, append-nil, arith}
 use Rattle.std.specs.Prelude.{if◌then◌else◌}
 use Rattle.std.specs.VecDeque.{deque_len}
-use Rattle.std.proofs.lemmas.Bool.{cases_lt}
+use Rattle.std.proofs.lemmas.Bool.{cases_eq, cases_lt}
 use Rattle.std.proofs.lemmas.Bool.Decides.{nat_tests}
 use Rattle.std.proofs.lemmas.List.{get_or_append_left}
 use Rattle.std.proofs.lemmas.List.Edits.{get_or-remove_above, get_or-remove_below, length-remove}
 use Rattle.std.specs.declared.time.Instant.{Instant}
 use Rattle.connection.specs.declared.held.Held.{Held}
 use Rattle.connection.specs.declared.waiting.Waiting.{Waiting}
-use Rattle.connection.specs.Holding.{IsNoted, Leaves, MovesUp, Notes, StaysThere, Takes, end_of, first_of, round_end}
+use Rattle.connection.specs.Holding.{IsNoted, IsPassed, Leaves, MovesUp, Notes, StaysThere, Takes, end_of, first_of, round_end}
+use Rattle.connection.specs.Leaving.{LooksApartAt}
 use Rattle.connection.specs.Rounds.{EndsRound, IsCall, IsLeft, IsMet, IsMetIn, LosesOldest, MeetsEverybody}
 
 if_below : (n m a b : ℕ) → n < m → (if nat_lt n m then a else b) ≡ a
@@ -118,15 +119,14 @@ module _ {S : Type 0} (remaining : S → Option (List ℕ)) (most : ℕ) where
       )
 
   -- one left, which isn't the oldest alone
-  leaving : (place : ℕ) (old new : Waiting S) (gone : ℕ) → Leaves gone old new → old.next ≤ place → place < round_end old
-      → IsMetOrLeft place old new
-  leaving place old new gone leaves above below =
+  leaving_others : (place : ℕ) (old new : Waiting S) (gone : ℕ) → Leaves gone old new → ((gone ≡ place) → ⊥) → old.next ≤ place
+      → place < round_end old → (place_then : ℕ) × IsLeft remaining most place place_then old new
+  leaving_others place old new gone leaves other above below =
       let items : List (Held S) = old.connections.items in
       let fewer : length new.connections.items + 1 ≡ length items = ap (λ (l : List (Held S)). length l + 1) leaves.are ∙ length-remove items gone leaves.there in
       elim (cases_lt place gone) [
         | inl earlier ↦
-            let next : new.next ≡ old.next = leaves.next ∙ if_not_below gone old.next (old.next - 1) old.next (omega (arith, above, earlier)) in
-            inr (
+            let next : new.next ≡ old.next = leaves.next ∙ if_not_below gone old.next (old.next - 1) old.next (omega (arith, above, earlier)) in (
               place,
               (
                 omega (arith, above, next),
@@ -145,8 +145,7 @@ module _ {S : Type 0} (remaining : S → Option (List ℕ)) (most : ℕ) where
         | inr later ↦ elim (cases_lt gone place) [
           | inl behind ↦
               let end : new.end ≡ old.end - 1 = leaves.end ∙ if_below gone old.end (old.end - 1) old.end (omega (arith, below, behind)) in
-              let here : (place - 1) + 1 ≡ place = omega (arith, behind) in
-              inr (
+              let here : (place - 1) + 1 ≡ place = omega (arith, behind) in (
                 place - 1,
                 (
                   elim (cases_lt gone old.next) [
@@ -164,11 +163,53 @@ module _ {S : Type 0} (remaining : S → Option (List ℕ)) (most : ℕ) where
                       ∙ ap (λ (n : ℕ). slice_index_or items n d) here),
                 ),
               )
-          | inr same ↦
-              let here : gone ≡ place = omega (arith, later, same) in
-              inl (inr (inr (inr (subst (λ (n : ℕ). Leaves n old new) here leaves))))
+          | inr same ↦ absurd (other (omega (arith, later, same)))
         ]
       ]
+
+  leaving : (place : ℕ) (old new : Waiting S) (gone : ℕ) → Leaves gone old new → old.next ≤ place → place < round_end old
+      → IsMetOrLeft place old new
+  leaving place old new gone leaves above below = elim (cases_eq gone place) [
+    | inl here ↦ inl (inr (inr (inr (inl (subst (λ (n : ℕ). Leaves n old new) here leaves)))))
+    | inr other ↦ inr (leaving_others place old new gone leaves other above below)
+  ]
+
+  -- one was looked at outside of the rounds
+  looking_apart : (place : ℕ) (old new : Waiting S) (now : Instant) (there : ℕ) (taken : Option (Held S))
+      → LooksApartAt remaining now there old new taken → old.next ≤ place → place < round_end old → IsMetOrLeft place old new
+  looking_apart place old new now there None looks above below = elim (cases_eq there place) [
+    | inl here ↦ inl (inl (
+      now,
+      λ d.
+          subst (λ (n : ℕ). IsPassed remaining now (slice_index_or old.connections.items n d) (slice_index_or new.connections.items n d))
+          here (inl (looks.0 d, looks.1.there d)),
+    ))
+    | inr other ↦ inr (
+      place,
+      (
+        omega (arith, above, looks.2.next),
+        omega (arith, below, looks.2.end, looks.1.length),
+        λ d. as_it_was old place d new place (looks.1.others place d (λ same. other (sym same))),
+      ),
+    )
+  ]
+  looking_apart place old new now there (Some held) looks above below = elim (cases_eq there place) [
+    | inl here ↦ inl (inr (inr (inr (inr
+        (now, held, subst (λ (n : ℕ). LooksApartAt remaining now n old new (Some held)) here looks)))))
+    | inr other ↦
+        let seen = looks.0 in
+        let left = leaving_others place seen new there looks.3 other (omega (arith, above, looks.2.next))
+        (omega (arith, below, looks.2.end, looks.1.length)) in
+        inr (
+          left.0,
+          (
+            left.1.0,
+            left.1.1,
+            λ d. subst (λ (h : Held S). (number : ℕ) × (moment : Instant) × IsNoted number moment h (slice_index_or new.connections.items left.0 d))
+                (looks.1.others place d (λ same. other (sym same))) (left.1.2 d),
+          ),
+        )
+  ]
 
   -- something may have come on one of them
   noting : (place : ℕ) (old new : Waiting S) (number : ℕ) (now : Instant) → Notes number now old new → old.next ≤ place
@@ -198,7 +239,16 @@ module _ {S : Type 0} (remaining : S → Option (List ℕ)) (most : ℕ) where
           | inl noted ↦ noting place old new noted.0 noted.1 noted.2 above below
           | inr kept_or_gone ↦ elim kept_or_gone [
             | inl gone ↦ leaving place old new gone.0 gone.1 above below
-            | inr kept ↦ staying place old new [] (kept.0 ∙ sym (append-nil old.connections.items)) kept.1 above below
+            | inr apart_or_kept ↦ elim apart_or_kept [
+              | inl apart ↦ elim apart.2 [
+                | inl looks ↦ looking_apart place old new apart.0 looks.0 apart.1 looks.1 above below
+                | inr none ↦ staying place old new []
+                    (ap (λ (waiting : Waiting S). waiting.connections.items) none.0 ∙ sym (append-nil old.connections.items))
+                    (record { next = ap (λ (waiting : Waiting S). waiting.next) none.0; end = ap (λ (waiting : Waiting S). waiting.end) none.0 })
+                    above below
+              ]
+              | inr kept ↦ staying place old new [] (kept.0 ∙ sym (append-nil old.connections.items)) kept.1 above below
+            ]
           ]
         ]
       ]

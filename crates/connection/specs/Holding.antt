@@ -173,14 +173,14 @@ IsDue (held ∷ others) now = granted ≤ instant_nanos now - instant_nanos held
 abbrev pub HasRoom : {S : Type 0} → (most : ℕ) → List (Held S) → (now : Instant) → Type 0
 HasRoom most connections now = (length connections < most) ⊎ IsDue connections now
 
--- the oldest connection was given up, and the others stay
+-- the oldest connection left to make room, and the others stay
 pub record GivesUp {S : Type 0} (now : Instant) (old new : Waiting S) : Type 0 where
   pub oldest : Held S
   pub were : old.connections.items ≡ oldest ∷ new.connections.items
   pub due : IsDue old.connections.items now
   pub moves : MovesUp old new
 
--- the oldest connection was given up for this one
+-- the oldest connection left to make room for this one
 pub record GivesUpFor {S : Type 0} (held : Held S) (now : Instant) (old new : Waiting S) : Type 0 where
   pub oldest : Held S
   pub others : List (Held S)
@@ -193,15 +193,6 @@ pub record GivesUpFor {S : Type 0} (held : Held S) (now : Instant) (old new : Wa
 pub record Holds {S : Type 0} (held : Held S) (old new : Waiting S) : Type 0 where
   pub are : new.connections.items ≡ old.connections.items ++ held ∷ []
   pub stays : StaysThere old new
-
--- Why this connection isn't held, or another one isn't any more: out of memory (`is_tight`), or there is no room; or
--- the oldest was given up for it
-abbrev pub Refuses : {S : Type 0} → (most : ℕ) → Held S → (now : Instant) → (old new : Waiting S) → (is_tight : Type 0)
-    → Type 0
-Refuses most held now old new is_tight =
-    ((new.connections.items ≡ old.connections.items) × StaysThere old new
-    × (is_tight ⊎ (HasRoom most old.connections.items now → ⊥)))
-    ⊎ GivesUpFor held now old new
 
 -- ---- the memory of all of them
 

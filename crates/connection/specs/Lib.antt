@@ -2,6 +2,7 @@ pub mod Reactions
 pub mod Reporting
 pub mod Serving
 pub mod Known
+pub mod Leaving
 pub mod Listening
 pub mod Requests
 pub mod Streams

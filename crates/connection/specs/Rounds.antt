@@ -6,6 +6,7 @@ use Rattle.std.specs.declared.time.Instant.{Instant}
 use Rattle.connection.specs.declared.held.Held.{Held}
 use Rattle.connection.specs.declared.waiting.Waiting.{Waiting}
 use Rattle.connection.specs.Holding.{GivesUp, GivesUpFor, Holds, IsNoted, IsPassed, Leaves, Notes, StaysThere, Takes, round_end}
+use Rattle.connection.specs.Leaving.{LooksApart, LooksApartAt}
 
 -- all connections of the round that is under way were passed, or have left
 abbrev pub IsRoundOver : {S : Type 0} → Waiting S → Type 0
@@ -24,6 +25,7 @@ module _ {S : Type 0} (remaining : S → Option (List ℕ)) (most : ℕ) where
       ⊎ ((held : Held S) × Holds held old new)
       ⊎ ((number : ℕ) × (now : Instant) × Notes number now old new)
       ⊎ ((gone : ℕ) × Leaves gone old new)
+      ⊎ ((now : Instant) × (taken : Option (Held S)) × LooksApart remaining now old new taken)
       ⊎ ((new.connections.items ≡ old.connections.items) × StaysThere old new)
 
   -- calls from a moment within a round up to its end
@@ -31,7 +33,8 @@ module _ {S : Type 0} (remaining : S → Option (List ℕ)) (most : ℕ) where
   EndsRound old [] = IsRoundOver old
   EndsRound old (new ∷ later) = IsCall old new × EndsRound new later
 
-  -- a call met the connection at this place: it was passed, or taken out because it can be served, or given up
+  -- a call met the connection at this place: it was passed, or taken out because it can be served, in its turn or outside
+  -- of the rounds, or given up
   abbrev pub IsMet : (place : ℕ) → (old new : Waiting S) → Type 0
   IsMet place old new =
       ((now : Instant) × ((d : Held S) → IsPassed remaining now
@@ -39,6 +42,7 @@ module _ {S : Type 0} (remaining : S → Option (List ℕ)) (most : ℕ) where
       ⊎ ((now : Instant) × (held : Held S) × (place ≡ new.next) × Takes remaining now most old new (Some held))
       ⊎ ((place ≡ 0) × LosesOldest old new)
       ⊎ Leaves place old new
+      ⊎ ((now : Instant) × (held : Held S) × LooksApartAt remaining now place old new (Some held))
 
   -- A call left the connection at this place as it was, or noted that something may have come on it: it is at that
   -- place now, and its turn in the round comes

@@ -136,6 +136,11 @@ impl<S: Read + AsRawFd + Drop> Held<S> {
         self.is_gone
     }
 
+    /// Whether less has come on it than a first read takes.
+    pub(crate) fn has_little(&self) -> bool {
+        self.received.bytes.len() < SHORT_READ
+    }
+
     /// How many bytes of memory its request takes.
     pub(crate) fn size(&self) -> usize
         ensures { result ≡ size_of self.now }

@@ -11,6 +11,7 @@ mod faults;
 mod held;
 mod late;
 mod laws;
+mod leaving;
 mod limits;
 mod lines;
 mod listening;

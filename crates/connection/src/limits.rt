@@ -26,7 +26,7 @@ pub(crate) const MOST_SPARED: u32 = 3;
 /// The most connections that one call looks at.
 pub(crate) const MOST_LOOKS: usize = 4;
 
-/// The most connections that are accepted in a row, if their requests aren't whole.
+/// The most connections that are accepted in a row, or looked at outside of the rounds, if their requests aren't whole.
 pub(crate) const MOST_IN_A_ROW: u32 = 64;
 
 /// The most connections whose whole requests wait because all rows are read for them.

@@ -10,15 +10,17 @@ use crate::ending::Ending;
 use crate::endings::Endings;
 use crate::faults::FaultCount;
 use crate::held::{Answering, Asked, Held};
-use crate::limits::longest_turn;
+use crate::limits::{MOST_HELD, longest_turn};
 use crate::listening::Listen;
 use crate::search_times::SearchTimes;
 use crate::searches::Searches;
 use crate::serving::{ConnectionFault, tell};
+use crate::sockets::turns::Sort;
 use crate::waiting::Waiting;
 use crate::watch::{Sign, Watch, sign_of};
 use provider_core::Meanwhile;
 use std::alloc::Global;
+use std::collections::VecDeque;
 use std::io;
 use std::io::{Eprint, ErrorKind, Read, Write};
 use std::net::{Net, OpenListener, OpenStream};
@@ -47,8 +49,13 @@ where
     descriptors: Descriptors,
     faults: FaultCount,
     waiting: Waiting<L::Stream>,
-    /// Whether a new connection was taken out last, so that those that wait come first.
-    is_new_last: bool,
+    /// One that can be served, and had to make room: it is the next.
+    found: Option<Held<L::Stream>>,
+    /// The numbers of those of which the system told something. If little has come on them so far, they are looked at
+    /// outside of the rounds.
+    told: VecDeque<usize>,
+    /// Which sort of connections comes first in the next turn: not the one of which somebody was served last.
+    first: Sort,
     /// Whether a connection failed that wasn't given out.
     has_failed: bool,
     searches: Searches<L::Stream>,
@@ -78,7 +85,9 @@ where
             descriptors: _,
             faults: _,
             waiting: _,
-            is_new_last: _,
+            found: _,
+            told: _,
+            first: _,
             has_failed: _,
             searches: _,
             search_times: _,
@@ -120,7 +129,9 @@ where
             descriptors: Descriptors::new(),
             faults: FaultCount::new(),
             waiting: Waiting::new(alloc),
-            is_new_last: false,
+            found: None,
+            told: VecDeque::new(alloc),
+            first: Sort::New,
             has_failed: false,
             searches: Searches::new(alloc),
             search_times: SearchTimes::new(longest_search),
@@ -141,6 +152,8 @@ where
                 Sign::Connection(number) => {
                     if !self.waiting.note(number, now) {
                         self.endings.note(number, now);
+                    } else if self.told.len() < MOST_HELD {
+                        let _is_told = self.told.push_back(number);
                     }
                 }
             }
@@ -148,10 +161,11 @@ where
         Ok(now)
     }
 
-    /// The same, but if there is something to do, the system isn't asked in each turn. It is before a search, and if the
-    /// thread that serves is the only client.
+    /// The same, but if there is something to do, the system isn't asked in each turn. It is before a search, and if a
+    /// connection waits for its request, or the thread that serves is the only client.
     fn begin_turn(&mut self, timeout: Option<Duration>) -> io::Result<Instant> {
-        let may_go_on = timeout == Some(Duration::ZERO) && !self.is_own && self.searches.len() == 0;
+        let has_others = self.searches.len() > 0 || self.waiting.len() > 0;
+        let may_go_on = timeout == Some(Duration::ZERO) && !self.is_own && !has_others;
         if may_go_on && self.watch.is_spared() {
             return Instant::now(self.clock);
         }
@@ -164,7 +178,8 @@ where
         ensures { IfOk result (λ pause. IsNone pause → self.now.is_own ≡ false) }
     {
         let now = Instant::now(self.clock)?;
-        if self.may_accept(now) || !self.waiting.is_round_over() {
+        let has_some = self.found.is_some() || !self.told.is_empty();
+        if has_some || self.may_accept(now) || !self.waiting.is_round_over() {
             return Ok(Some(Duration::ZERO));
         }
         let room = self.waiting.room_time().unwrap_or(now);
@@ -185,7 +200,10 @@ where
         let mut pause = Some(Duration::ZERO);
         for _ in 0..u64::MAX {
             let now = self.begin_turn(pause)?;
-            let found = self.turn(now);
+            let found = match self.found.take() {
+                Some(held) => Some(held),
+                None => self.turn(now),
+            };
             self.report(now);
             pause = match found {
                 Some(held) => {
@@ -237,7 +255,9 @@ where
     }
 
     /// Counts the fault of a connection that isn't given out.
-    fn fail(&mut self) {
+    fn fail(&mut self)
+        ensures { self.new.found ≡ self.old.found }
+    {
         self.has_failed = true;
         self.faults.add(1);
     }

@@ -3,6 +3,7 @@ ghost use Rattle.std.specs.Prelude.{◌≡◌};
 ghost use Rattle.connection.specs.Memory.{AreWithin, memory_of};
 
 use crate::held::{Held, MOST_READS};
+use crate::leaving::{Leaver, last_look};
 use crate::limits::{MOST_GROWTH, MOST_HELD, MOST_LOOKS, MOST_MEMORY, granted};
 use crate::watch::Watch;
 use std::alloc::Global;
@@ -13,7 +14,7 @@ use std::time::Instant;
 
 /// How much memory the requests of all may take before a call that reads more of them, so that they don't exceed the
 /// bound until the next one.
-const MOST_BEFORE: usize = MOST_MEMORY - MOST_GROWTH;
+pub(crate) const MOST_BEFORE: usize = MOST_MEMORY - MOST_GROWTH;
 
 /// Connections whose requests aren't whole yet, in the order in which they were accepted. They are passed in rounds.
 /// A round has the connections that are held when it begins.
@@ -33,11 +34,12 @@ pub(crate) struct Waiting<S: Drop> {
 }
 
 impl<S: Read + AsRawFd + Drop> Waiting<S> {
-    ghost use Rattle.std.specs.Prelude.{◌≤◌, ◌<◌, ◌+◌, ◌↔◌, ◌⊎◌, [], IsSome, IsTrue};
+    ghost use Rattle.std.specs.Prelude.{◌≤◌, ◌<◌, ◌+◌, ◌↔◌, ◌⊎◌, [], IsSome, IsTrue, true};
     ghost use Rattle.std.specs.Bool.{OnFalse, OnTrue};
     ghost use Rattle.std.specs.List.{remove, slice_index_or};
     ghost use Rattle.std.specs.VecDeque.{deque_capacity, deque_len};
-    ghost use Rattle.connection.specs.Holding.{GivesUp, GivesUpLargest, HasRoom, Holds, IsDue, IsLargest, Leaves, LooksAt, Notes, NotesAt, Refuses, StaysThere, Takes, TakesFirst, count_of, end_of, first_of, is_time, round_end};
+    ghost use Rattle.connection.specs.Holding.{HasRoom, Holds, IsDue, IsLargest, Leaves, LooksAt, Notes, NotesAt, StaysThere, Takes, TakesFirst, count_of, end_of, first_of, is_time, round_end};
+    ghost use Rattle.connection.specs.Leaving.{FreesMemory, HasMemory, LooksApart, LooksApartAt, Places, Releases};
     ghost use Rattle.connection.specs.Memory.{size_of};
 
     pub(crate) fn new(alloc: Global) -> Self
@@ -98,43 +100,53 @@ impl<S: Read + AsRawFd + Drop> Waiting<S> {
         }
     }
 
-    /// Gives up the oldest connection if it has had its time, and returns whether it did.
-    pub(crate) fn give_up_oldest(&mut self, now: Instant) -> bool
-        ensures given_up { OnTrue result (GivesUp now self.old self.new) }
-        ensures kept { OnFalse result
-            ((self.new ≡ self.old) × (IsDue self.old.connections.items now → ⊥)) }
-        ensures room { OnTrue result
-            (deque_len self.new.connections < deque_capacity self.new.connections) }
+    /// The oldest connection leaves if it has had its time. It is looked at once more before, so that no request is
+    /// closed that has come whole.
+    pub(crate) fn release_oldest(&mut self, watch: &Watch, alloc: Global, now: Instant) -> Leaver<S>
+        ensures leaves { Releases S.remaining now self.old self.new result }
+        ensures room { IsDue self.old.connections.items now →
+            deque_len self.new.connections < deque_capacity self.new.connections }
     {
         if !self.is_oldest_due(now) {
-            return false;
+            return Leaver::Nobody;
         }
-        if let Some(oldest) = self.connections.pop_front() {
-            self.size -= oldest.size() as u128;
-        }
+        let Some(oldest) = self.connections.pop_front() else {
+            return Leaver::Nobody;
+        };
+        self.size -= oldest.size() as u128;
         self.next = self.next.saturating_sub(1);
         self.end = self.end.saturating_sub(1);
-        true
+        last_look(oldest, watch, alloc, now)
     }
 
-    /// Holds a connection, from the next round on. If there is no place for it, the oldest one is given up. It returns
-    /// whether it is held, and all others still are.
-    pub(crate) fn hold(&mut self, held: Held<S>, now: Instant) -> bool
-        ensures kept { OnTrue result (Holds held self.old self.new) }
-        ensures refused { OnFalse result
-            (Refuses MOST_HELD held now self.old self.new
-            (deque_capacity self.old.connections ≤ deque_len self.old.connections)) }
+    /// Holds a connection, from the next round on. If there is no place for it, the oldest one leaves. All others still
+    /// are held.
+    pub(crate) fn hold(
+        &mut self,
+        held: Held<S>,
+        watch: &Watch,
+        alloc: Global,
+        now: Instant,
+    ) -> Leaver<S>
+        ensures places { Places S.remaining MOST_HELD held now self.old self.new
+            (deque_capacity self.old.connections ≤ deque_len self.old.connections) result }
         ensures bound { deque_len self.old.connections ≤ MOST_HELD →
             deque_len self.new.connections ≤ MOST_HELD }
     {
         if !self.is_full() {
-            return self.push(held);
+            return if self.push(held) {
+                Leaver::Nobody
+            } else {
+                Leaver::Closed
+            };
         }
-        if self.give_up_oldest(now) {
-            let is_held = self.push(held);
-            prove!(is_held);
+        if !self.is_oldest_due(now) {
+            return Leaver::Closed;
         }
-        false
+        let leaver = self.release_oldest(watch, alloc, now);
+        let is_held = self.push(held);
+        prove!(is_held);
+        leaver
     }
 
     /// Holds a connection behind the others, if there is memory for it. It returns whether there is.
@@ -163,6 +175,7 @@ impl<S: Read + AsRawFd + Drop> Waiting<S> {
         alloc: Global,
         now: Instant,
     ) -> Option<Held<S>>
+        requires { HasMemory MOST_BEFORE self.old }
         ensures { Takes S.remaining now MOST_LOOKS self.old self.new result }
     {
         self.go_on();
@@ -202,7 +215,7 @@ impl<S: Read + AsRawFd + Drop> Waiting<S> {
                     return None;
                 }
                 looks += 1;
-                if self.is_ready_at(place, watch, alloc, now) {
+                if self.is_ready_at(place, watch, alloc, MOST_READS, now) {
                     self.end = end - 1;
                     return self.take_out(place);
                 }
@@ -226,14 +239,65 @@ impl<S: Read + AsRawFd + Drop> Waiting<S> {
     pub(crate) fn note(&mut self, number: usize, now: Instant) -> bool
         ensures { Notes number now self.old self.new }
     {
-        let place = self
-            .connections
-            .partition_point(|held| held.number() < number);
+        let place = self.place_of(number);
         if place >= self.connections.len() || self.number_at(place) != number {
             return false;
         }
         self.note_at(place, now);
         true
+    }
+
+    /// The place of the connection with this number, or where it would be.
+    fn place_of(&self, number: usize) -> usize {
+        self.connections
+            .partition_point(|held| held.number() < number)
+    }
+
+    /// Whether little has come on the connection at a place.
+    fn has_little_at(&self, place: usize) -> bool
+        requires { place < deque_len self.now.connections }
+    {
+        self.connections[place].has_little()
+    }
+
+    /// Looks at the connection with this number outside of the rounds, if it is time to, and little has come on it so
+    /// far. It is taken out if it can be served.
+    pub(crate) fn take_new(
+        &mut self,
+        number: usize,
+        watch: &Watch,
+        alloc: Global,
+        now: Instant,
+    ) -> Option<Held<S>>
+        ensures { LooksApart S.remaining now self.old self.new result }
+    {
+        let place = self.place_of(number);
+        if place >= self.connections.len()
+            || self.number_at(place) != number
+            || !self.has_little_at(place)
+            || !self.is_time_at(place, now)
+        {
+            return None;
+        }
+        self.take_at(place, watch, alloc, now)
+    }
+
+    /// Looks at the connection at a place outside of the rounds, and takes it out if it can be served.
+    fn take_at(
+        &mut self,
+        place: usize,
+        watch: &Watch,
+        alloc: Global,
+        now: Instant,
+    ) -> Option<Held<S>>
+        requires there { place < deque_len self.old.connections }
+        requires time { (d : _) → is_time now (slice_index_or self.old.connections.items place d) ≡ true }
+        ensures { LooksApartAt S.remaining now place self.old self.new result }
+    {
+        if !self.is_ready_at(place, watch, alloc, 1, now) {
+            return None;
+        }
+        self.leave(place)
     }
 
     /// The number of the connection at a place.
@@ -266,8 +330,15 @@ impl<S: Read + AsRawFd + Drop> Waiting<S> {
         self.connections.front()?.accepted().checked_add(granted())
     }
 
-    /// Whether the connection at a place can be served.
-    fn is_ready_at(&mut self, place: usize, watch: &Watch, alloc: Global, now: Instant) -> bool
+    /// Whether the connection at a place can be served. It looks by so many reads at most.
+    fn is_ready_at(
+        &mut self,
+        place: usize,
+        watch: &Watch,
+        alloc: Global,
+        most_reads: u32,
+        now: Instant,
+    ) -> bool
         requires { place < deque_len self.old.connections }
         ensures looks { LooksAt S.remaining place self.old.connections.items
             self.new.connections.items result }
@@ -276,30 +347,33 @@ impl<S: Read + AsRawFd + Drop> Waiting<S> {
     {
         let held = &mut self.connections[place];
         let before = held.size() as u128;
-        let is_ready = held.is_ready(watch, alloc, MOST_READS, now);
+        let is_ready = held.is_ready(watch, alloc, most_reads, now);
         let size = held.size();
         self.size = self.size - before + size as u128;
         self.most = self.most.max(size);
         is_ready
     }
 
-    /// Gives up the connection with the largest request, however old it is, if the requests of all of them and those of
-    /// others take so much memory that the next turn could exceed the bound. It returns whether it did.
-    pub(crate) fn free_memory(&mut self, others: usize) -> bool
-        ensures given_up { OnTrue result
-            ((MOST_BEFORE < others + memory_of self.old.connections.items)
-            × GivesUpLargest self.old self.new) }
-        ensures kept { OnFalse result ((self.new ≡ self.old)
-            × ((deque_len self.old.connections ≡ 0)
-            ⊎ (others + memory_of self.old.connections.items ≤ MOST_BEFORE))) }
+    /// The connection with the largest request leaves, however old it is, if the requests of all of them and those of
+    /// others take so much memory that the next turn could exceed the bound. It is looked at once more before.
+    pub(crate) fn free_memory(
+        &mut self,
+        others: usize,
+        watch: &Watch,
+        alloc: Global,
+        now: Instant,
+    ) -> Leaver<S>
+        ensures { FreesMemory S.remaining MOST_BEFORE others self.old self.new result }
     {
         if self.connections.is_empty() || !self.takes_too_much(others) {
-            return false;
+            return Leaver::Nobody;
         }
         let place = self.largest();
         self.most = self.size_at(place);
-        self.leave(place);
-        true
+        match self.leave(place) {
+            Some(largest) => last_look(largest, watch, alloc, now),
+            None => Leaver::Closed,
+        }
     }
 
     /// Whether the requests of all of them take too much memory before more of them is read.
@@ -336,18 +410,20 @@ impl<S: Read + AsRawFd + Drop> Waiting<S> {
         self.connections[place].size()
     }
 
-    /// Closes the connection at a place.
-    fn leave(&mut self, place: usize)
+    /// The connection at a place leaves.
+    fn leave(&mut self, place: usize) -> Option<Held<S>>
         requires { place < deque_len self.old.connections }
-        ensures { Leaves place self.old self.new }
+        ensures leaves { Leaves place self.old self.new }
+        ensures value { (d : _) → result ≡ Some (slice_index_or self.old.connections.items place d) }
     {
-        let _gone = self.take_out(place);
+        let gone = self.take_out(place);
         if place < self.next {
             self.next -= 1;
         }
         if place < self.end {
             self.end -= 1;
         }
+        gone
     }
 
     /// Takes out the connection at a place.
