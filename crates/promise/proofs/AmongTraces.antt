@@ -36,6 +36,7 @@ use Rattle.world_model.specs.Others.{HeadlineAmong, LeavesAlone, run_among}
 use Rattle.world_model.specs.Safe.{id_in, rows as world_rows}
 use Rattle.world_model.proofs.Invariant.{always_inv_among}
 use Rattle.world_sim.proofs.Fitting.{messages_are_read_among}
+use Rattle.world_sim.proofs.Given.{asked_fairly}
 use Rattle.promise.specs.Among.{AsksAlone, PromisedAmong, ServesTheirs, StepAmong, StepAmong.mine, StepAmong.theirs, TraceAmong, TraceAmong.here, TraceAmong.next, TracesAreRunsAmong, TracesWithoutOthers}
 use Rattle.promise.specs.AmongTyped as typed
 use Rattle.promise.specs.AmongTyped.{HasOurs}
@@ -68,7 +69,7 @@ of_worlds ours w v whole h = record {
   reached = h.reached;
 }
 
-promised_among : (ours : Names) (w v : World) (s t : State) → IsWholeTable w.entries → IsAt s w → IsAt t v → HeadlineAmong ours w v → PromisedAmong ours s.history s.rows (book_of s.book) t.rows
+pub promised_among : (ours : Names) (w v : World) (s t : State) → IsWholeTable w.entries → IsAt s w → IsAt t v → HeadlineAmong ours w v → PromisedAmong ours s.history s.rows (book_of s.book) t.rows
 promised_among ours w v s t whole before after headline =
     subst (λ (h : History). PromisedAmong ours h s.rows (book_of s.book) t.rows) (sym before.history)
     (subst (λ (rows : List StoredRecord). PromisedAmong ours w.history rows (book_of s.book) t.rows) (sym before.rows)
@@ -84,7 +85,7 @@ read_among base ours u is_base all trace =
     record {
       history = w.history;
       entries = w.entries;
-      asked = λ request has. let there = r.mirrors.sent request has in (always_inv_among ours r.led r.apart).told there.0 (Asked request) there.1;
+      asked = λ request has. let there = r.mirrors.sent request has in asked_fairly w.history w.entries request ((always_inv_among ours r.led r.apart).told there.0 (Asked request) there.1);
       spelled = λ request has formed. messages_are_read_among base ours r.led (Asked request) is_base r.apart r.lawful (r.mirrors.sent request has) formed;
       answers = λ request answer has formed.
           messages_are_read_among base ours r.led (Answered request answer) is_base r.apart r.lawful (r.mirrors.replies (request, answer) has) formed;
@@ -98,7 +99,7 @@ pub record GoesAmong (base : List ℕ) (ours : Names) (u : own.State) (t : State
   pub trace : typed.TraceAmong ours u later
   pub spoken : Spoken base t later
 
-all_mine : (ours : Names) (a b : own.State) → own.Trace a b → typed.TraceAmong ours a b
+pub all_mine : (ours : Names) (a b : own.State) → own.Trace a b → typed.TraceAmong ours a b
 all_mine ours a b own.here = typed.here
 all_mine ours a b (own.next {mid = mid} more step) = typed.next (all_mine ours a mid more) (typed.mine step)
 
@@ -228,7 +229,7 @@ module _ (base : List ℕ) (ours : Names) (old : State) (u : own.State) (spoken 
         | inr found ↦ as_before (settled s.before rows found.0 (subst (λ (r : R). g.may_hold r rows) replies.1 found.2))
       ]
 
-      theirs_step : GoesAmong base ours u after_serving
+      pub theirs_step : GoesAmong base ours u after_serving
       theirs_step = by_read s.is.replied.read s.is.replied.reply s.alone s.is.replied.replies s.is.replied.leaves
 
 -- ---- every trace

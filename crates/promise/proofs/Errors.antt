@@ -33,7 +33,7 @@ use Rattle.scim_message.specs.declared.messages.Answer.{Answer}
 use Rattle.scim_message.specs.declared.messages.Request.TheVariants.{Create, Retrieve, Search, Replace}
 use Rattle.provider_core.specs.Stories.{Entry}
 use Rattle.connector_core.specs.History.{History}
-use Rattle.world_model.specs.Invariant.{AskedTruly}
+use Rattle.world_model.proofs.Durable.{AskedFairly}
 use Rattle.world_sim.proofs.Fitting.{id_lawful}
 use Rattle.scim_client.proofs.AnswerLaws.{answers_are_read}
 use Rattle.world_sim.proofs.BodySizes.{error_lawful, error_most}
@@ -74,7 +74,7 @@ module _ (base : List ℕ) (is_base : IsBase base) (error : ErrorRecord) (r : Is
       (keeps_answer_limits base (Error error) (record { body = r.short; long = length_within (compact_text (error_data error)) r.short; location = nothing_within 226; tag = nothing_within 22 }))
 
   -- as the answer to a request that was sent in a run
-  pub error_is_read : (history : History) (es : List Entry) (request : Request) → AskedTruly history es request → AnswersSo (answer_text base false (Error error)) request (Error error)
+  pub error_is_read : (history : History) (es : List Entry) (request : Request) → AskedFairly history es request → AnswersSo (answer_text base false (Error error)) request (Error error)
   error_is_read history es (Create content) asked = by_target (Create content) tt
   error_is_read history es (Retrieve kind id if_match if_none_match) asked = absurd asked
   error_is_read history es (Search kind wanted from count) asked = any_filter (answer_text base false (Error error)) kind None wanted from count (Error error) (by_target (Search kind None from count) tt)

@@ -17,3 +17,4 @@ pub mod Abreast
 pub mod Paces
 pub mod Leading
 pub mod Moves
+pub mod Resets

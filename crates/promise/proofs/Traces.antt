@@ -44,11 +44,12 @@ use Rattle.connector_core.specs.declared.learning.Learnt.{Learnt}
 use Rattle.connector_core.specs.declared.learning.LearnFault.{LearnFault}
 use Rattle.provisioning.specs.Exchanges.{Becomes, Came, answered, lost, answer_in as answer_of}
 use Rattle.world_model.specs.World.{World, Asked, Answered, empty, run}
-use Rattle.world_model.specs.Invariant.{AskedTruly}
+use Rattle.world_model.proofs.Durable.{AskedFairly}
 use Rattle.world_model.proofs.Invariant.{always_inv}
 use Rattle.world_model.specs.Safe.{Has, IsPrefixOf}
 use Rattle.world_sim.specs.Fitting.{IsFormed}
 use Rattle.world_sim.proofs.Fitting.{messages_are_read}
+use Rattle.world_sim.proofs.Given.{asked_fairly}
 use Rattle.promise.specs.Traces.{CameFrom, Hears, IsAt, IsAtFront, LeavesBook, Serves, State, Step, Step.offers, Step.asks, Step.serves, Step.hears, Step.doubts, Step.reopens, Step.rests, Trace, Trace.here, Trace.next, TracesAreRuns, Written, start}
 use Rattle.promise.specs.Typed as typed
 use Rattle.promise.proofs.Bytes.{one_request_message, one_response_message, part_of_part, without_body}
@@ -160,7 +161,7 @@ meant m text request front spells = subst (λ n. Asks n (Ok request)) (sym (one_
 pub record IsRead (base : List ℕ) (u : typed.State) : Type 0 where
   pub history : History
   pub entries : List Entry
-  pub asked : (request : Request) → Has u.sent request → AskedTruly history entries request
+  pub asked : (request : Request) → Has u.sent request → AskedFairly history entries request
   pub spelled : (request : Request) → Has u.sent request → IsFormed base (Asked request) → SpellsRequest (text_of base request) request
   pub answers : (request : Request) (answer : Answer) → Has u.replies (request, answer) → IsFormed base (Answered request answer) → AnswersSo (answer_text base false answer) request answer
 
@@ -450,7 +451,7 @@ read_so base u is_base trace =
     record {
       history = w.history;
       entries = w.entries;
-      asked = λ request has. let there = ran.mirrors.sent request has in (always_inv ran.events).told there.0 (Asked request) there.1;
+      asked = λ request has. let there = ran.mirrors.sent request has in asked_fairly w.history w.entries request ((always_inv ran.events).told there.0 (Asked request) there.1);
       spelled = λ request has formed. messages_are_read base ran.events (Asked request) is_base ran.lawful (ran.mirrors.sent request has) formed;
       answers = λ request answer has formed. messages_are_read base ran.events (Answered request answer) is_base ran.lawful (ran.mirrors.replies (request, answer) has) formed;
     }

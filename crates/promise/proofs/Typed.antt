@@ -132,7 +132,7 @@ module _ (old : State) (w : World) (m : Mirrors old w) where
       }
 
   -- the book becomes another, and the names stay
-  rebooked : (v : World) (book : BookMap) → book_of book ≡ v.book → keys book ≡ keys old.book → v.history ≡ w.history → v.entries ≡ w.entries → v.messages ≡ w.messages
+  pub rebooked : (v : World) (book : BookMap) → book_of book ≡ v.book → keys book ≡ keys old.book → v.history ≡ w.history → v.entries ≡ w.entries → v.messages ≡ w.messages
       → Mirrors (record old { book = book }) v
   rebooked v book is names history entries messages = record {
     rows = m.rows ∙ ap rows_of (sym entries);

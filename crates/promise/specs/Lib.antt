@@ -8,3 +8,4 @@ pub mod Moves
 pub mod Abreast
 pub mod AmongMoves
 pub mod AmongPaces
+pub mod Resets

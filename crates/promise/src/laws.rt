@@ -7,6 +7,7 @@ ghost use Rattle.promise.specs.AmongSeveral.{TracesOfSeveralAreRuns};
 ghost use Rattle.promise.specs.AmongTyped.{TypedTracesAreRunsAmong};
 ghost use Rattle.promise.specs.Calls.{DoubtsAreSteps, ExchangesAreSteps, OffersAreSteps, ReopeningAfterChanges, ReopeningAfterExchanges, ReopeningIsAStep, ServingIsAStep};
 ghost use Rattle.promise.specs.Moves.{ListenersAreMoves, MovesAreTraces, PushAndServeAreATrace, PushesAreMoves};
+ghost use Rattle.promise.specs.Resets.{ClosingIsAStep, ReopeningAfterAll, ResetsAreSteps, TracesThroughResets};
 ghost use Rattle.promise.specs.Traces.{TracesAreRuns};
 ghost use Rattle.promise.specs.Typed.{TypedTracesAreRuns};
 
@@ -47,7 +48,8 @@ pub fn traces_are_runs_among<R: Registry, J: Journal, I: Read, O: Write, P: Read
 /// The calls of the programs are steps of a trace: each connection that was served, if what came on it was a
 /// first part of the text of a request that was ever sent, or all of it; each exchange, if what came on its
 /// stream was a first part of what was written for its request, or all of it; each row that was offered; each
-/// record that was doubted; and each opening of the connector, also after a fault.
+/// record that was doubted; and each opening of the connector, also after a fault, also of the one call that
+/// offers many rows (`after_all`). What `close` gives back is what the next opening finds (`closing`).
 pub fn calls_are_steps<R: Registry, J: Journal, I: Read, O: Write, P: Read, Q: Write>()
     ensures serving { ServingIsAStep R.Registry J.Journal I.remaining O.contents P.remaining
         Q.contents }
@@ -63,6 +65,28 @@ pub fn calls_are_steps<R: Registry, J: Journal, I: Read, O: Write, P: Read, Q: W
         P.remaining Q.contents }
     ensures after_changes { ReopeningAfterChanges R.Registry J.Journal I.remaining O.contents
         P.remaining Q.contents }
+    ensures after_all { ReopeningAfterAll R.Registry J.Journal I.remaining O.contents P.remaining
+        Q.contents }
+    ensures closing { ClosingIsAStep R.Registry J.Journal I.remaining O.contents P.remaining
+        Q.contents }
+{}
+
+/// Between two runs of the connector its journal may be reset: all records, or some. Then every trace of calls
+/// and resets is a story of acts and resets of the model, so the promise holds for our records between any two
+/// moments of it, whatever messages from before the reset are still under way (`runs`). What `reset` makes of
+/// the entries, and the opening over that, are a step (`resets`).
+pub fn traces_through_resets_are_runs<
+    R: Registry,
+    J: Journal,
+    I: Read,
+    O: Write,
+    P: Read,
+    Q: Write,
+>()
+    ensures runs { TracesThroughResets R.Registry J.Journal I.remaining O.contents P.remaining
+        Q.contents }
+    ensures resets { ResetsAreSteps R.Registry J.Journal I.remaining O.contents P.remaining
+        Q.contents }
 {}
 
 /// What `push` and `serve` do is a trace. By their contracts each makes a list of moves: a push offers the

@@ -1,4 +1,5 @@
 use Rattle.promise.proofs.Calls as laws
+use Rattle.promise.proofs.Resets as resets
 use Rattle.promise.proofs.laws.calls_are_steps.Goals as goal
 
 pub returns-clause-serving : goal.returns-clause-serving
@@ -21,3 +22,9 @@ returns-clause-after_exchanges g c = laws.reopening_after_exchanges g.R.Registry
 
 pub returns-clause-after_changes : goal.returns-clause-after_changes
 returns-clause-after_changes g c = laws.reopening_after_changes g.R.Registry g.J.Journal g.I.Read.remaining g.O.Write.contents g.P.Read.remaining g.Q.Write.contents
+
+pub returns-clause-after_all : goal.returns-clause-after_all
+returns-clause-after_all g c = resets.reopening_after_all g.R.Registry g.J.Journal g.I.Read.remaining g.O.Write.contents g.P.Read.remaining g.Q.Write.contents
+
+pub returns-clause-closing : goal.returns-clause-closing
+returns-clause-closing g c = resets.closing_is_a_step g.R.Registry g.J.Journal g.I.Read.remaining g.O.Write.contents g.P.Read.remaining g.Q.Write.contents
