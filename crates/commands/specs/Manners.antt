@@ -42,6 +42,7 @@ GivesGiveUp (Some value) text (Err why) =
 pub record IsManner (found : Found) (manner : Manner) : Type 0 where
   pub planned : manner.is_planned ≡ is_set (one_text found (codes "plan"))
   pub quiet : manner.delivery.is_quiet ≡ is_set (one_text found (codes "quiet"))
+  pub rechecked : manner.delivery.is_rechecked ≡ is_set (one_text found (codes "recheck"))
   pub most : GivesMost (one_text found (codes "most-leavers")) (first_value found (codes "most-leavers"))
       (is_snapshot found) (Ok manner.most_leavers)
   pub streams : GivesStreams (first_value found (codes "streams")) (one_text found (codes "streams"))

@@ -41,11 +41,14 @@ pub fn pushed_status(ended: Result<Outcome, RunFault>) -> Result<Status, Command
     Ok(carried_status(ended?))
 }
 
-/// The exit status of a `check`, by the counts of its records.
-pub(crate) fn checked_status(ended: Result<Counts, RunFault>) -> Result<Status, CommandFault>
-    ensures { result ≡ checked_status ended }
+/// The exit status of a `check`, by the counts of its records, and by whether each row of its files was taken.
+pub(crate) fn checked_status(
+    ended: Result<Counts, RunFault>,
+    are_taken: bool,
+) -> Result<Status, CommandFault>
+    ensures { result ≡ checked_status ended are_taken }
 {
-    if ended?.are_in_step() {
+    if ended?.are_in_step() && are_taken {
         Ok(Status::Done)
     } else {
         Ok(Status::Refused)

@@ -36,6 +36,8 @@ pub struct Manner {
 pub struct Delivery {
     /// Only the records that aren't confirmed are printed, and counts.
     pub is_quiet: bool,
+    /// What is confirmed is compared first, and what differs is doubted.
+    pub is_rechecked: bool,
     /// How many records are pushed at once, in which order, and when the run gives up.
     pub pace: Pace,
 }
@@ -50,6 +52,7 @@ impl Manner {
             most_leavers: most_leavers(words)?,
             delivery: Delivery {
                 is_quiet: is_quiet(words),
+                is_rechecked: is_rechecked(words),
                 pace: Pace {
                     streams: streams(words)?,
                     leavers_first: leavers_first(words),
@@ -72,6 +75,13 @@ pub(crate) fn is_quiet(words: &ArgMatches<'_>) -> bool
     ensures { result ≡ is_set (one_text (found_of words.now) (codes "quiet")) }
 {
     words.get_one("quiet").unwrap_or(false)
+}
+
+/// Whether the arguments ask for a recheck.
+fn is_rechecked(words: &ArgMatches<'_>) -> bool
+    ensures { result ≡ is_set (one_text (found_of words.now) (codes "recheck")) }
+{
+    words.get_one("recheck").unwrap_or(false)
 }
 
 /// The most users that a run may switch off, if the arguments say so, as they must if the files are snapshots.

@@ -2,7 +2,7 @@
 ghost use Rattle.std.specs.Prelude.{IfOk};
 ghost use Rattle.clap.specs.Matches.{found_of};
 ghost use Rattle.commands.specs.Planning.{IsPlanned, IsPushed, IsPushedAt};
-ghost use Rattle.commands.specs.Limits.{PushesApproved, PushesOver};
+ghost use Rattle.commands.specs.Limits.{BeginsBy, PushesApproved, PushesChecked, PushesOver};
 ghost use Rattle.commands.specs.Running.{CarriesAs, GivesConnector, Pushes, PushesKnown};
 
 use crate::endings::pushed_status;
@@ -13,6 +13,7 @@ use crate::output::{NotedWriter, standard_output};
 use crate::planning::plan_over;
 use crate::status::{CommandFault, Status};
 use crate::words::to;
+use checking::recheck;
 use clap::ArgMatches;
 use connector_core::Connector;
 use journal_core::{Journal, MemoryJournal};
@@ -75,8 +76,9 @@ fn push_named<'a, R: Runtime + Net + AllocGlobal, J: EntryStorage>(
     push_over(rt, storage, &job, to, manner.delivery, manner.most_leavers)
 }
 
-/// Opens the journal and reads the files. If these would switch off more than `most` users, it reports that and does
-/// nothing else; otherwise it carries their records. Then it closes the journal.
+/// Opens the journal, compares what is confirmed if that is wanted, and reads the files. If more than `most` users
+/// would be switched off, it reports that and changes nothing; otherwise it carries the records. Then it closes the
+/// journal.
 pub fn push_over<'a, R: Runtime + Net + AllocGlobal, J: EntryStorage>(
     rt: &'a R,
     storage: &J,
@@ -90,13 +92,13 @@ pub fn push_over<'a, R: Runtime + Net + AllocGlobal, J: EntryStorage>(
         (J.finds storage.now) J.Entries.is_closed delivery job.now most result }
 {
     let mut connector = open_connector(rt.alloc(), storage)?;
-    let ended = push_approved(rt, &mut connector, job, to, delivery, most);
+    let ended = push_checked(rt, &mut connector, job, to, delivery, most);
     close(connector);
     ended
 }
 
-/// Reads the files, and carries their records if they keep to the limit.
-fn push_approved<'a, R: Runtime + Net + AllocGlobal, J: Journal>(
+/// Compares what is confirmed, if that is wanted, and carries the records of the files.
+fn push_checked<'a, R: Runtime + Net + AllocGlobal, J: Journal>(
     rt: &'a R,
     connector: &mut Connector<J>,
     job: &Job<'_>,
@@ -104,11 +106,59 @@ fn push_approved<'a, R: Runtime + Net + AllocGlobal, J: Journal>(
     delivery: Delivery,
     most: Option<u32>,
 ) -> Result<Status, CommandFault>
-    ensures { PushesApproved ⟦<TimedHandle<'a, R::Stream, R> as Read>⟧.remaining
+    ensures { PushesChecked ⟦<TimedHandle<'a, R::Stream, R> as Read>⟧.remaining
         ⟦<TimedHandle<'a, R::Stream, R> as Write>⟧.contents J.Journal delivery job.now most
         connector.old connector.new result }
 {
-    match approved(rt, connector, job, most) {
+    match begun(rt, connector, &job.service, to, delivery) {
+        Ok(rechecked) => push_approved(rt, connector, job, to, delivery, most, rechecked),
+        Err(fault) => Err(CommandFault::Run(fault)),
+    }
+}
+
+/// Doubts what differs from what is confirmed, if that is wanted. Returns how many users would be switched off by that.
+fn begun<'a, R: Runtime + Net + AllocGlobal, J: Journal>(
+    rt: &'a R,
+    connector: &mut Connector<J>,
+    service: &ScimService,
+    to: &str,
+    delivery: Delivery,
+) -> Result<usize, RunFault>
+    ensures { BeginsBy ⟦<TimedHandle<'a, R::Stream, R> as Read>⟧.remaining
+        ⟦<TimedHandle<'a, R::Stream, R> as Write>⟧.contents J.Journal delivery.is_rechecked
+        service.now connector.old connector.new result }
+{
+    let (alloc, streams) = (rt.alloc(), delivery.pace.streams);
+    if delivery.is_rechecked {
+        recheck(
+            rt,
+            alloc,
+            service,
+            connector,
+            delivery.is_quiet,
+            streams,
+            to,
+        )
+    } else {
+        Ok(0)
+    }
+}
+
+/// Reads the files, and carries their records if they keep to the limit beside those whom a recheck would switch off.
+fn push_approved<'a, R: Runtime + Net + AllocGlobal, J: Journal>(
+    rt: &'a R,
+    connector: &mut Connector<J>,
+    job: &Job<'_>,
+    to: &str,
+    delivery: Delivery,
+    most: Option<u32>,
+    rechecked: usize,
+) -> Result<Status, CommandFault>
+    ensures { PushesApproved ⟦<TimedHandle<'a, R::Stream, R> as Read>⟧.remaining
+        ⟦<TimedHandle<'a, R::Stream, R> as Write>⟧.contents J.Journal delivery job.now most
+        rechecked connector.old connector.new result }
+{
+    match approved(rt, connector, job, most, rechecked) {
         Ok(Some(sources)) => push_known(rt, connector, job, &sources, to, delivery),
         Ok(None) => Ok(Status::Refused),
         Err(fault) => Err(fault),

@@ -58,6 +58,13 @@ pub fn users<'a>(matches: &ArgMatches<'a>) -> Result<&'a str, CommandFault>
     matches.get_str("users").ok_or(CommandFault::File)
 }
 
+/// The file of users in the arguments, if there is one.
+pub fn users_if_named<'a>(matches: &ArgMatches<'a>) -> Option<&'a str>
+    ensures { text_in result ≡ first_value (found_of matches.now) (codes "users") }
+{
+    matches.get_str("users")
+}
+
 /// The file of groups in the arguments, if there is one.
 pub fn groups<'a>(matches: &ArgMatches<'a>) -> Option<&'a str>
     ensures { text_in result ≡ first_value (found_of matches.now) (codes "groups") }

@@ -149,6 +149,14 @@ static COMMANDS: &[CommandText] = &[
                 rule: Rule::Required,
                 ..TO
             },
+            OptionText {
+                rule: Rule::Optional,
+                ..USERS
+            },
+            OptionText {
+                rule: Rule::With("users"),
+                ..GROUPS
+            },
             BASE,
             OptionText {
                 help: Help::Text(
@@ -218,6 +226,14 @@ static COMMANDS: &[CommandText] = &[
                 value: Value::Nothing,
                 rule: Rule::Optional,
                 help: Help::Text("prints what would be asked for, and does nothing"),
+            },
+            OptionText {
+                name: "recheck",
+                value: Value::Nothing,
+                rule: Rule::Without("plan"),
+                help: Help::Text(
+                    "first compares what is confirmed with what the provider has, and puts right what differs",
+                ),
             },
             OptionText {
                 name: "most-leavers",

@@ -5,9 +5,9 @@ pub returns : goal.returns
 returns g c =
     inl (
       c.in_ok-connector.connector,
-      c.push_approved-ended.new.connector,
+      c.push_checked-ended.new.connector,
       c.close.result,
       c.in_ok-connector.ensures,
-      c.push_approved-ended.ensures,
+      c.push_checked-ended.ensures,
       c.close.ensures,
     )
