@@ -19,6 +19,12 @@ def counts(checked, differing=0, unchecked=0):
 
 
 class CheckTest(PushTest):
+    def gather(self):
+        """Ann and Bob have joined, and are members of a group."""
+        self.join()
+        self.site.write_groups("crew,1,ann bob")
+        self.pushes(2, "user ann confirmed 1", "user bob confirmed 1", "group crew confirmed 1")
+
     def check(self, to, *options, **more):
         return scimlink("check", "--journal", self.site.journal, "--to", to, *options, **more)
 
@@ -57,12 +63,6 @@ ANN, BOB, CREW = f"/v2/Users/{resource_id(1)}", f"/v2/Users/{resource_id(2)}", f
 
 
 class StoreTest(CheckTest):
-    def gather(self):
-        """Ann and Bob have joined, and are members of a group."""
-        self.join()
-        self.site.write_groups("crew,1,ann bob")
-        self.pushes(2, "user ann confirmed 1", "user bob confirmed 1", "group crew confirmed 1")
-
     def test_in_step(self):
         self.gather()
         self.checks(3, counts(3), status=0)
@@ -138,6 +138,43 @@ class StoreTest(CheckTest):
         changed = [(ANN, {"userName": "Ann"}), (BOB, {"active": True, "userName": "Bob"})]
         line = 'user bob active: true, wanted false; userName: "Bob", wanted "bob"'
         self.checks(2, line, counts(2, 2), changed=changed, options=["--quiet"])
+
+
+class FilesTest(CheckTest):
+    """What a push of files would want is compared, and the journal stays as it is."""
+
+    def files(self):
+        return [str(word) for word in self.site.source_options()]
+
+    def test_rows_that_were_not_pushed(self):
+        self.join()
+        self.site.write_users("bob,2,,,,,left", "ann,1,,,,,active", "cid,1,,,,,active")
+        bob = "user bob active: true, wanted false; revision: 1, wanted 2"
+        self.checks(3, bob, "user cid: gone", counts(3, 2), options=self.files())
+        self.checks(2, counts(2), status=0)
+
+    def test_a_group_that_was_not_pushed(self):
+        self.join()
+        self.site.write_groups("crew,1,ann bob")
+        self.checks(3, "group crew: gone", counts(3, 1), options=self.files())
+
+    def test_rows_that_were_pushed(self):
+        self.gather()
+        self.checks(3, counts(3), status=0, options=self.files())
+
+    def test_a_rejected_row(self):
+        self.join()
+        self.site.write_users("bob,1,,,,,left", "ann,1,,,,,active")
+        with self.serving(2, "--store", self.site.store) as provider:
+            run = self.check(provider.address, *self.files())
+        self.assert_prints(run, counts(2), status=1, errors=["users record 1: S7"])
+
+    def test_files(self):
+        make_journal(self.site.journal, [ANN_THERE])
+        for options in self.site.unreadable_sources():
+            self.assert_fault(self.check(NOWHERE, *options), "file fault")
+        self.site.write_groups("crew,1,ann")
+        self.assertEqual(self.check(NOWHERE, "--groups", self.site.groups).status, 2)
 
 
 class SlowPeer:

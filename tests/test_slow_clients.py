@@ -1,6 +1,7 @@
 """`serve`: slow clients hold nobody up, and lose nothing."""
 import contextlib
 import os
+import pathlib
 import resource
 import socket
 import time
@@ -19,6 +20,8 @@ PROMPTLY = TIME_LIMIT / 2
 MOST_HELD, GRANTED = 4_096, 0.1
 # The most bytes of memory that their requests take for longer
 MOST_MEMORY = 16 * 1024 * 1024
+# Seconds within which half of the requests are answered beside clients that are silent
+MOST_OF_A_LOOK = 0.2
 # How many connections are opened together, and how many more than have a place
 PART, EXCESS = 100, 20
 
@@ -66,6 +69,12 @@ def is_closed(stream):
         return False
     except ConnectionError:
         return True
+
+
+def processor_seconds(pid):
+    """How long a process has run on a processor."""
+    times = pathlib.Path(f"/proc/{pid}/stat").read_text().rpartition(")")[2].split()[11:13]
+    return sum(map(int, times)) / os.sysconf("SC_CLK_TCK")
 
 
 class PromptTest(ProgramTest):
@@ -185,6 +194,74 @@ class SlowClientTest(PromptTest):
             time.sleep(10 * GRANTED)
             self.assert_prompt(provider, CREATE_BOB, b"201")
 
+    def assert_served_before_it_makes_room(self, provider, oldest):
+        """The oldest connection sends a whole request, and then another connection needs its place: both while the
+        program is stopped, so that the request isn't read before."""
+        time.sleep(2 * GRANTED)
+        provider.freeze()
+        oldest.sendall(FIND_BOB)
+        with provider.connect():
+            provider.resume()
+            oldest.settimeout(PROMPTLY)
+            self.assertTrue(read_all(oldest).startswith(b"HTTP/1.1 404"))
+
+    def test_a_whole_request_is_served_before_it_makes_room(self):
+        # (the one that needed its place leaves without a request, which is the fault)
+        with many_handles(self, MOST_HELD + 500), self.serving(2, connection_faults=1) as provider, \
+                contextlib.ExitStack() as silent:
+            streams = [silent.enter_context(stream) for stream in connect_all(provider, MOST_HELD)]
+            self.assert_served_before_it_makes_room(provider, streams[0])
+            # nobody else had to
+            self.assertFalse(any(map(is_closed, streams[1:])))
+            self.assert_prompt(provider, CREATE_BOB, b"201")
+
+    def test_a_whole_request_is_served_before_it_makes_room_for_want_of_descriptors(self):
+        with Provider(1_000, **limited_handles(24)) as provider, contextlib.ExitStack() as silent:
+            streams = [silent.enter_context(provider.connect()) for _ in range(40)]
+            wait_until(lambda: is_closed(streams[0]), "the oldest made room")
+            time.sleep(10 * GRANTED)
+            held = [stream for stream in streams if not is_closed(stream)]
+            held[0].setblocking(True)
+            self.assert_served_before_it_makes_room(provider, held[0])
+
+    def test_an_answer_is_sent_on_beside_others(self):
+        """A client reads its answer slowly, while others ask again and again."""
+        with Provider(1_000_000) as provider:
+            self.fill(provider, 200)
+            whole = provider.exchange(LIST)
+            with narrow_connection(provider.port) as stream:
+                stream.sendall(LIST)
+                stream.settimeout(PROMPTLY)
+                with Askers(provider, 4) as askers:
+                    wait_until(lambda: askers.answers > 100, "their answers")
+                    self.assertEqual(read_all(stream), whole)
+
+    def test_nobody_waits_for_a_silent_client(self):
+        """Beside clients of which nothing comes, others don't wait for a next look at these."""
+        times = []
+        with Provider(1_000_000) as provider, contextlib.ExitStack() as silent:
+            for _ in range(3):
+                silent.enter_context(provider.connect())
+            for _ in range(21):
+                time.sleep(0.01)
+                began = time.monotonic()
+                self.assertTrue(provider.exchange(FIND_BOB).startswith(b"HTTP/1.1 404"))
+                times.append(time.monotonic() - began)
+        self.assertLess(sorted(times)[len(times) // 2], MOST_OF_A_LOOK)
+
+    def test_who_waits_takes_no_processor(self):
+        """Neither do clients of which nothing comes, nor one that doesn't read its answer."""
+        with Provider(1_000_000) as provider, provider.connect(), provider.connect() as parts:
+            self.fill(provider, 200)
+            parts.sendall(FIND_BOB[:-1])
+            with narrow_connection(provider.port) as stream:
+                stream.sendall(LIST)
+                self.assert_prompt(provider, FIND_BOB, b"200")
+                time.sleep(0.2)
+                before = processor_seconds(provider.pid)
+                time.sleep(1)
+                self.assertLess(processor_seconds(provider.pid) - before, 0.3)
+
     def assert_lets_others_in(self, provider, count, pace):
         """So many clients each send a byte of a head at this pace, and come back when they are closed."""
         began = time.monotonic()
@@ -232,6 +309,22 @@ class SlowClientTest(PromptTest):
             self.assertLess(time.monotonic() - began, TIME_LIMIT)
             self.assert_prompt(provider, CREATE_BOB, b"201")
             self.assertGreater(self.connection_faults(self.kill(provider)), 0)
+
+
+class Askers(Beside):
+    """Clients that ask again and again."""
+
+    def __init__(self, provider, count):
+        self.provider, self.count, self.answers = provider, count, 0
+
+    def work(self):
+        while not self.is_over.is_set():
+            with contextlib.ExitStack() as stack:
+                streams = [stack.enter_context(self.provider.connect()) for _ in range(self.count)]
+                for stream in streams:
+                    stream.sendall(FIND_BOB)
+                for stream in streams:
+                    self.answers += read_all(stream).startswith(b"HTTP/1.1 200")
 
 
 class Tricklers(Beside):

@@ -53,6 +53,15 @@ class LimitTest(ThresholdTest):
         # who is off already isn't switched off again
         self.pushes(0, "user ann confirmed 1", "user bob confirmed 2", options=["--most-leavers", "0"])
 
+    def test_the_last_row_of_a_long_file(self):
+        """The file has more than 16 MiB, and its last row says that Bob left."""
+        self.keep_active("bob")
+        more = ",".join(["x" * 256] * 3)
+        rows = (f"{number:0128},1,{more},,active" for number in range(2**24 // 900))
+        self.site.write_users(*rows, "bob,2,,,,,left")
+        self.assertGreater(self.site.users.stat().st_size, 2**24)
+        self.is_stopped(1, 0)
+
     def test_a_journal_that_is_not_there(self):
         self.site.write_users("bob,1,,,,,left")
         self.goes_on(0)
