@@ -17,7 +17,9 @@ use Rattle.connector_core.specs.declared.accepting.Verdict.{Verdict}
 use Rattle.connector_core.specs.declared.accepting.Verdict.TheVariants as verdicts
 use Rattle.connector_core.specs.Book.{Book, seeing}
 use Rattle.connector_core.specs.Changing.{accepted_map, book_after, if_new, judged, judging, new_rows, taking_all}
-use Rattle.connector_core.specs.Learning.{after_learning, learn}
+use Rattle.connector_core.specs.Keeps.{learn_at}
+use Rattle.connector_core.specs.declared.keeps.Keeps.{Keeps}
+use Rattle.connector_core.specs.Learning.{after_learning}
 use Rattle.connector_core.specs.Maps.{BookMap, book_of, changed}
 use Rattle.connector_core.specs.Noting.{IsNewsOf, IsNoted, after_news, entries_with}
 use Rattle.connector_core.specs.State.{AreOf, IsKept, Leaves, LeavesBook, State, entry_of}
@@ -75,7 +77,7 @@ of-none found book new rows is none are =
 
 -- ---- what is learnt
 
-module _ (book : BookMap) (request : Request) (answer : Answer) (name : RecordName) (n : News) (is : IsNoted book request answer name n) where
+module _ (keeps : Keeps) (book : BookMap) (request : Request) (answer : Answer) (name : RecordName) (n : News) (is : IsNoted keeps book request answer name n) where
   news-of : (entries : EntryMap) → IsKept entries book → (m : News) → IsNewsOf is.known m → AreOf (entries_with entries name m) (book_of (changed (after_news m) book name)) (keys (changed (after_news m) book name))
   news-of entries kept (news.Lasting confirmed id seen learnt) keeps = are-of _ _ (kept-learnt entries book name is.known kept is.there confirmed id seen keeps)
   news-of entries kept (news.Passing seen doubt learnt) keeps = are-of _ _ (kept-seen entries book name is.known kept is.there seen doubt)
@@ -83,11 +85,11 @@ module _ (book : BookMap) (request : Request) (answer : Answer) (name : RecordNa
       let B : BookMap → Type 0 = λ b. AreOf entries (book_of b) (keys b) in
       subst B (same-book book name is.known is.there) (are-of entries book kept)
 
-  pub of-news : (entries : EntryMap) → IsKept entries book → AreOf (entries_with entries name n) (after_learning (book_of book) (learn (book_of book) request answer)) (keys book)
+  pub of-news : (entries : EntryMap) → IsKept entries book → AreOf (entries_with entries name n) (after_learning (book_of book) (learn_at keeps (book_of book) request answer)) (keys book)
   of-news entries kept =
       let made = news-of entries kept n is.is_news in
-      let after : book_of (changed (after_news n) book name) ≡ after_learning (book_of book) (learn (book_of book) request answer) =
-      book-after book request answer name n is (changed (after_news n) book name) (Ok learnt.Nothing) refl in
+      let after : book_of (changed (after_news n) book name) ≡ after_learning (book_of book) (learn_at keeps (book_of book) request answer) =
+      book-after keeps book request answer name n is (changed (after_news n) book name) (Ok learnt.Nothing) refl in
       record { same = λ q. made.same q ∙ ap (λ b. option_map entry_of (b q)) after; listed = made.listed ∙ same-names (after_news n) book name is.known is.there }
 
 -- ---- calls

@@ -22,9 +22,11 @@ use Rattle.journal_core.specs.declared.entries.Entry.{Entry}
 use Rattle.connector_core.proofs.Keeping.{kept-put, maps_are_books, names-put}
 use Rattle.connector_core.specs.Book.{Book, doubted, doubting, learning, put, seeing}
 use Rattle.connector_core.specs.History.{same_name}
-use Rattle.connector_core.specs.Learning.{Finding, Learning, Lesson, Sight, after_learning, finding, learn, lesson, noted, or_fault, seen_at, sighted, subject}
+use Rattle.connector_core.specs.Keeps.{carried, learn_at, lesson_at}
+use Rattle.connector_core.specs.declared.keeps.Keeps.{Keeps}
+use Rattle.connector_core.specs.Learning.{Finding, Learning, Lesson, Sight, after_learning, finding, noted, or_fault, seen_at, sighted, subject}
 use Rattle.connector_core.specs.Maps.{BookMap, GivesUnless, book_of, changed, changed_at}
-use Rattle.connector_core.specs.Noting.{IsFit, IsNewsAt, IsNewsOf, IsNoted, IsNotNoted, IsOfJournal, IsPassing, IsToBeKept, KeepsEntries, MayStandFor, Note, after_news, entries_with, learnt_of, lesson_of, news_learnt, note, noted_entries, noted_in}
+use Rattle.connector_core.specs.Noting.{IsFit, IsNewsAt, IsNewsOf, IsNoted, IsNotNoted, IsOfJournal, IsPassing, IsToBeKept, KeepsEntries, MayStandFor, Note, after_news, entries_with, learnt_of, lesson_of, news_learnt, note_at, noted_entries, noted_in}
 use Rattle.connector_core.specs.State.{IsKept, entry_of}
 use Rattle.connector_core.specs.declared.fitting.News.{News}
 use Rattle.connector_core.specs.declared.fitting.News.TheVariants.{Lasting, Passing, Nothing}
@@ -164,12 +166,12 @@ bind-as : {A B C : Type 0} (h : Result B LearnFault → Result C LearnFault) (r 
 bind-as h (Ok x) f g same faults = same x
 bind-as h (Err fault) f g same faults = sym (faults fault)
 
-module _ (book : Book) (request : Request) (answer : Answer) where
+module _ (keeps : Keeps) (book : Book) (request : Request) (answer : Answer) where
   abbrev note-lesson : RecordName → Lesson → Result Note LearnFault
   note-lesson name l = Ok (record { name = name; lesson = l })
 
   abbrev note-said : RecordName → Known → Finding → Result Note LearnFault
-  note-said name known said = lesson book name known said >>= note-lesson name
+  note-said name known said = lesson_at keeps book name known (carried request) said >>= note-lesson name
 
   abbrev note-known : RecordName → Known → Result Note LearnFault
   note-known name known = finding request answer >>= note-said name known
@@ -181,7 +183,7 @@ module _ (book : Book) (request : Request) (answer : Answer) where
   learn-lesson name l = Ok (noted book name l)
 
   abbrev learn-said : RecordName → Known → Finding → Result Learning LearnFault
-  learn-said name known said = lesson book name known said >>= learn-lesson name
+  learn-said name known said = lesson_at keeps book name known (carried request) said >>= learn-lesson name
 
   abbrev learn-known : RecordName → Known → Result Learning LearnFault
   learn-known name known = finding request answer >>= learn-said name known
@@ -190,7 +192,7 @@ module _ (book : Book) (request : Request) (answer : Answer) where
   learn-name name = or_fault NoSuchRecord (book name) >>= learn-known name
 
   said-same : (name : RecordName) (known : Known) (said : Finding) → learn-said name known said ≡ noted_in book (note-said name known said)
-  said-same name known said = bind-as (noted_in book) (lesson book name known said) (note-lesson name) (learn-lesson name) (λ l. refl) (λ fault. refl)
+  said-same name known said = bind-as (noted_in book) (lesson_at keeps book name known (carried request) said) (note-lesson name) (learn-lesson name) (λ l. refl) (λ fault. refl)
 
   known-same : (name : RecordName) (known : Known) → learn-known name known ≡ noted_in book (note-known name known)
   known-same name known = bind-as (noted_in book) (finding request answer) (note-said name known) (learn-said name known) (said-same name known) (λ fault. refl)
@@ -198,7 +200,7 @@ module _ (book : Book) (request : Request) (answer : Answer) where
   name-same : (name : RecordName) → learn-name name ≡ noted_in book (note-name name)
   name-same name = bind-as (noted_in book) (or_fault NoSuchRecord (book name)) (note-known name) (learn-known name) (known-same name) (λ fault. refl)
 
-  pub learns_by_notes : learn book request answer ≡ noted_in book (note book request answer)
+  pub learns_by_notes : learn_at keeps book request answer ≡ noted_in book (note_at keeps book request answer)
   learns_by_notes = bind-as (noted_in book) (or_fault Unfit (subject request)) note-name learn-name name-same (λ fault. refl)
 
 -- ---- what was noted of a record of the book
@@ -252,9 +254,9 @@ changes-entry known confirmed id seen keeps same = elim keeps.changes [
   | inr higher ↦ irreflexive confirmed (subst (λ r. r ≺ confirmed) (sym (ap (λ (e : Entry). e.confirmed) same)) higher)
 ]
 
-module _ (book : BookMap) (request : Request) (answer : Answer) (name : RecordName) (news : News) (is : IsNoted book request answer name news) where
-  pub learns : learn (book_of book) request answer ≡ Ok (noted (book_of book) name (lesson_of is.known news))
-  learns = learns_by_notes (book_of book) request answer ∙ ap (noted_in (book_of book)) is.noted
+module _ (keeps : Keeps) (book : BookMap) (request : Request) (answer : Answer) (name : RecordName) (news : News) (is : IsNoted keeps book request answer name news) where
+  pub learns : learn_at keeps (book_of book) request answer ≡ Ok (noted (book_of book) name (lesson_of is.known news))
+  learns = learns_by_notes keeps (book_of book) request answer ∙ ap (noted_in (book_of book)) is.noted
 
   gives-noted : (result : Result Learnt LearnFault) → IfOk result (λ learnt. learnt ≡ news_learnt news) → IfErr result IsOfJournal
       → GivesUnless (MayStandFor (Ok (noted (book_of book) name (lesson_of is.known news)))) result (learnt_of (Ok (noted (book_of book) name (lesson_of is.known news))))
@@ -267,7 +269,7 @@ module _ (book : BookMap) (request : Request) (answer : Answer) (name : RecordNa
   gives-noted (Err Memory) ok err = inl tt
 
   pub gives-learnt : (result : Result Learnt LearnFault) → IfOk result (λ learnt. learnt ≡ news_learnt news) → IfErr result IsOfJournal
-      → GivesUnless (MayStandFor (learn (book_of book) request answer)) result (learnt_of (learn (book_of book) request answer))
+      → GivesUnless (MayStandFor (learn_at keeps (book_of book) request answer)) result (learnt_of (learn_at keeps (book_of book) request answer))
   gives-learnt result ok err =
       let G : Result Learning LearnFault → Type 0 = λ l. GivesUnless (MayStandFor l) result (learnt_of l) in
       subst G (sym learns) (gives-noted result ok err)
@@ -276,7 +278,7 @@ module _ (book : BookMap) (request : Request) (answer : Answer) (name : RecordNa
   book-noted = ap book_of (changed-is (after_news news) book name is.known is.there) ∙ (maps_are_books book name (after_news news is.known)).book
 
   pub book-after : (new : BookMap) (result : Result Learnt LearnFault) → OnOk result (new ≡ changed (after_news news) book name)
-      → OnOk result (book_of new ≡ after_learning (book_of book) (learn (book_of book) request answer))
+      → OnOk result (book_of new ≡ after_learning (book_of book) (learn_at keeps (book_of book) request answer))
   book-after new (Ok learnt) ok = ap book_of ok ∙ book-noted ∙ sym (ap (after_learning (book_of book)) learns)
   book-after new (Err fault) ok = tt
 
@@ -289,7 +291,7 @@ module _ (book : BookMap) (request : Request) (answer : Answer) (name : RecordNa
   with-news entries kept (Passing seen doubt learnt) = entries-seen entries book name is.known kept is.there seen doubt
   with-news entries kept Nothing = sym (entry-again entries name (entry_of is.known) (entry-there entries book name is.known kept is.there))
 
-  pub entries-after : (entries : EntryMap) → IsKept entries book → entries_with entries name news ≡ noted_entries entries (note (book_of book) request answer)
+  pub entries-after : (entries : EntryMap) → IsKept entries book → entries_with entries name news ≡ noted_entries entries (note_at keeps (book_of book) request answer)
   entries-after entries kept = with-news entries kept news ∙ sym (ap (noted_entries entries) is.noted)
 
   quiet-news : (n : News) (new : BookMap) (result : Result Learnt LearnFault) (before after : ℕ) → IsNewsOf is.known n → (IsPassing n → after ≡ before)
@@ -308,7 +310,7 @@ module _ (book : BookMap) (request : Request) (answer : Answer) (name : RecordNa
   quiet-after new result before after quiet err ok same = quiet-news news new result before after is.is_news quiet err ok same
 
 -- nothing was noted
-pub gives-fault : (book : BookMap) (request : Request) (answer : Answer) (fault : LearnFault) → IsNotNoted book request answer fault
-    → GivesUnless {X = Learnt} (MayStandFor (learn (book_of book) request answer)) (Err fault) (learnt_of (learn (book_of book) request answer))
-gives-fault book request answer fault (inl memory) = inl (subst (MayStandFor (learn (book_of book) request answer)) (sym memory) tt)
-gives-fault book request answer fault (inr none) = inr (ap learnt_of (learns_by_notes (book_of book) request answer ∙ ap (noted_in (book_of book)) none))
+pub gives-fault : (keeps : Keeps) (book : BookMap) (request : Request) (answer : Answer) (fault : LearnFault) → IsNotNoted keeps book request answer fault
+    → GivesUnless {X = Learnt} (MayStandFor (learn_at keeps (book_of book) request answer)) (Err fault) (learnt_of (learn_at keeps (book_of book) request answer))
+gives-fault keeps book request answer fault (inl memory) = inl (subst (MayStandFor (learn_at keeps (book_of book) request answer)) (sym memory) tt)
+gives-fault keeps book request answer fault (inr none) = inr (ap learnt_of (learns_by_notes keeps (book_of book) request answer ∙ ap (noted_in (book_of book)) none))

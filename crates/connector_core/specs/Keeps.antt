@@ -3,14 +3,13 @@
 -- Most providers drop the source extension, so no answer of theirs shows a revision. In its place the answer to the
 -- connector's own creation or replacement stands for what was asked. A search stands for no revision: what was found is
 -- seen, confirms nothing, and is replaced under the tag that was seen.
-use Rattle.std.specs.Prelude.{Bool, true, ◌&&◌, List, [], ◌∷◌, map, Option, Some, None, Result}
-use Rattle.std.specs.List.{list_all}
+use Rattle.std.specs.Prelude.{Bool, ◌&&◌, List, [], ◌∷◌, map, Option, Some, None, Result, Ok}
 use Rattle.scim_key.specs.Outcome.{◌>>=◌}
 use Rattle.scim_key.specs.Revisions.{RevisionValue, no_revision}
-use Rattle.scim_resource.specs.Contents.{content_name}
+use Rattle.scim_key.specs.declared.records.RecordName.{RecordName}
+use Rattle.scim_resource.specs.Contents.{content_name, content_with}
 use Rattle.scim_resource.specs.Rows.{ShownRecord}
 use Rattle.scim_resource.specs.declared.contents.Content.{Content}
-use Rattle.scim_resource.specs.declared.contents.Content.TheVariants as contents
 use Rattle.scim_message.specs.declared.messages.Request.{Request}
 use Rattle.scim_message.specs.declared.messages.Request.TheVariants.{Create, Retrieve, Search, Replace}
 use Rattle.scim_message.specs.declared.messages.Answer.{Answer}
@@ -19,14 +18,13 @@ use Rattle.scim_message.specs.declared.messages.Answer.TheVariants as answers
 use Rattle.comparing.specs.Aspects.{is_active, same_flag}
 use Rattle.connector_core.specs.History.{same_name}
 use Rattle.connector_core.specs.Book.{Book}
-use Rattle.connector_core.specs.Learning.{Learning, fault_unless, learn}
+use Rattle.connector_core.specs.Learning.{Finding, Shows, Shows_none, Taken, Stale, Learning, Lesson, or_fault}
+use Rattle.connector_core.specs.Learning.{fault_unless, subject, finding, shown_lesson, differing, lesson, noted}
+use Rattle.connector_core.specs.declared.knowledge.Known.{Known}
 use Rattle.connector_core.specs.declared.learning.LearnFault.{LearnFault}
-use Rattle.connector_core.specs.declared.learning.LearnFault.TheVariants.{Unfit}
-
--- Both kinds show a version in every answer, never use one twice for a resource, and obey If-Match
-pub data Keeps : Type 0 where
-  Revisions : Keeps  -- it keeps the source extension
-  Versions : Keeps  -- it drops the source extension
+use Rattle.connector_core.specs.declared.learning.LearnFault.TheVariants.{Unfit, Unversioned, NoSuchRecord}
+use Rattle.connector_core.specs.declared.keeps.Keeps.{Keeps}
+use Rattle.connector_core.specs.declared.keeps.Keeps.TheVariants.{Revisions, Versions}
 
 -- ---- the resources of an answer
 
@@ -49,10 +47,6 @@ resources_of (Error error) = []
 
 -- ---- the provider
 
-abbrev pub content_with : Option RevisionValue → Content → Content
-content_with revision (contents.User u) = contents.User (record u { revision = revision })
-content_with revision (contents.Group g) = contents.Group (record g { revision = revision })
-
 -- the same resource with this revision
 abbrev pub shown_with : Option RevisionValue → ShownRecord → ShownRecord
 shown_with revision s = record s { content = content_with revision s.content }
@@ -63,13 +57,17 @@ forgot answer = answer_with (shown_with None) answer
 
 -- ---- the connector
 
+-- the same resource with another content
+abbrev pub standing_for : Content → ShownRecord → ShownRecord
+standing_for content s = record s { content = content }
+
 -- What stands in the place of a shown resource. After a Create or a Replace: what the request carried, under the id and
 -- the version that are shown. After a Search: what is shown, at no revision
 abbrev pub filling : Request → ShownRecord → ShownRecord
-filling (Create content) s = record s { content = content }
+filling (Create content) s = standing_for content s
 filling (Retrieve kind id if_match if_none_match) s = shown_with (Some no_revision) s
 filling (Search kind wanted start count) s = shown_with (Some no_revision) s
-filling (Replace id content if_match if_none_match) s = record s { content = content }
+filling (Replace id content if_match if_none_match) s = standing_for content s
 
 -- what an answer stands for
 abbrev pub filled : Request → Answer → Answer
@@ -80,26 +78,53 @@ abbrev pub heard : Keeps → Request → Answer → Answer
 heard Revisions request answer = answer
 heard Versions request answer = filled request answer
 
--- the resource has the name of this content, and is active if the content is. Providers may write anything else in
--- another way than it was asked
-abbrev pub says : Content → ShownRecord → Bool
-says content s = same_name (content_name content) (content_name s.content)
-    && same_flag (is_active content) (is_active s.content)
+-- the content that a request carries
+abbrev pub carried : Request → Option Content
+carried (Create content) = Some content
+carried (Retrieve kind id if_match if_none_match) = None
+carried (Search kind wanted start count) = None
+carried (Replace id content if_match if_none_match) = Some content
 
--- an answer to a Create or a Replace shows what was asked
-abbrev pub shows_what_was_asked : Request → Answer → Bool
-shows_what_was_asked (Create content) answer = list_all (says content) (resources_of answer)
-shows_what_was_asked (Retrieve kind id if_match if_none_match) answer = true
-shows_what_was_asked (Search kind wanted start count) answer = true
-shows_what_was_asked (Replace id content if_match if_none_match) answer = list_all (says content) (resources_of answer)
+-- the resource has the record's name, and is active if this content is. Providers may write anything else in another
+-- way than it was asked
+abbrev pub says : RecordName → Content → ShownRecord → Bool
+says name content s = same_name name (content_name s.content) && same_flag (is_active content) (is_active s.content)
 
--- what is learnt from what the answer stands for, if it shows what was asked
-abbrev pub learn_by_answers : Book → Request → Answer → Result Learning LearnFault
-learn_by_answers book request answer = do
-  _ ← fault_unless Unfit (shows_what_was_asked request answer)
-  learn book request (filled request answer)
+-- an answer that shows what was asked stands for it
+abbrev pub asked_lesson : Book → RecordName → Known → Content → ShownRecord → Result Lesson LearnFault
+asked_lesson book name known content s = do
+  _ ← fault_unless Unfit (says name content s)
+  shown_lesson book name known (standing_for content s)
+
+-- A resource that a search shows is only seen, at no revision, if it has the record's name and a tag. Its id is known
+-- once an answer confirms; a doubt stays until then
+abbrev pub only_seen : RecordName → Known → ShownRecord → Result Lesson LearnFault
+only_seen name known s = do
+  _ ← fault_unless Unfit (same_name name (content_name s.content))
+  tag ← or_fault Unversioned s.version
+  Ok (differing known (record { id = s.id; revision = no_revision; tag = tag }))
+
+-- what is learnt from a resource that is shown without its revision, by the content that the request carried
+abbrev pub unshown_lesson : Book → RecordName → Known → (carried : Option Content) → ShownRecord
+    → Result Lesson LearnFault
+unshown_lesson book name known None s = only_seen name known s
+unshown_lesson book name known (Some content) s = asked_lesson book name known content s
+
+-- What is learnt about a record from what an answer says to a request that carried this content, by the kind of the
+-- provider
+abbrev pub lesson_at : Keeps → Book → RecordName → Known → (carried : Option Content) → Finding
+    → Result Lesson LearnFault
+lesson_at Revisions book name known carried said = lesson book name known said
+lesson_at Versions book name known carried (Shows s) = unshown_lesson book name known carried s
+lesson_at Versions book name known carried Shows_none = lesson book name known Shows_none
+lesson_at Versions book name known carried Taken = lesson book name known Taken
+lesson_at Versions book name known carried (Stale if_match) = lesson book name known (Stale if_match)
 
 -- What the connector learns from the answer to a request, by the kind of its provider
 abbrev pub learn_at : Keeps → Book → Request → Answer → Result Learning LearnFault
-learn_at Revisions book request answer = learn book request answer
-learn_at Versions book request answer = learn_by_answers book request answer
+learn_at keeps book request answer = do
+  name ← or_fault Unfit (subject request)
+  known ← or_fault NoSuchRecord (book name)
+  said ← finding request answer
+  l ← lesson_at keeps book name known (carried request) said
+  Ok (noted book name l)

@@ -5,6 +5,7 @@ use Rattle.std.specs.Option.{option_map}
 use Rattle.scim_key.specs.Outcome.{◌>>=◌}
 use Rattle.scim_key.specs.Revisions.{IsNoneOrRevision, IsRevision, RevisionValue, before, ◌≺◌, ◌≼◌}
 use Rattle.scim_key.specs.declared.records.RecordName.{RecordName}
+use Rattle.scim_resource.specs.declared.contents.Content.{Content}
 use Rattle.scim_message.specs.declared.messages.Answer.{Answer}
 use Rattle.scim_message.specs.declared.messages.Request.{Request}
 use Rattle.source_csv.specs.Records.{row_revision}
@@ -13,7 +14,9 @@ use Rattle.journal_core.specs.Stores.{HasRisen}
 use Rattle.scim_key.specs.declared.stores.StoreFault.{StoreFault}
 use Rattle.scim_key.specs.declared.stores.StoreFault.TheVariants as store
 use Rattle.connector_core.specs.Book.{Book, learning, seeing}
-use Rattle.connector_core.specs.Learning.{Finding, Learning, Lesson, Sight, finding, learn, lesson, noted, or_fault, subject}
+use Rattle.connector_core.specs.Keeps.{carried, learn_at, lesson_at}
+use Rattle.connector_core.specs.declared.keeps.Keeps.{Keeps}
+use Rattle.connector_core.specs.Learning.{Finding, Learning, Lesson, Sight, finding, noted, or_fault, subject}
 use Rattle.connector_core.specs.Maps.{BookMap, book_of}
 use Rattle.connector_core.specs.State.{entry_of}
 use Rattle.connector_core.specs.declared.fitting.News.{News}
@@ -30,13 +33,13 @@ pub record Note : Type 0 where
   pub name : RecordName
   pub lesson : Lesson
 
--- What is learnt from the answer to a request, with the name of its record
-abbrev pub note : Book → Request → Answer → Result Note LearnFault
-note book request answer = do
+-- What is learnt from the answer to a request, by the kind of the provider, with the name of its record
+abbrev pub note_at : Keeps → Book → Request → Answer → Result Note LearnFault
+note_at keeps book request answer = do
   name ← or_fault Unfit (subject request)
   known ← or_fault NoSuchRecord (book name)
   said ← finding request answer
-  l ← lesson book name known said
+  l ← lesson_at keeps book name known (carried request) said
   Ok (record { name = name; lesson = l })
 
 abbrev pub noted_in : Book → Result Note LearnFault → Result Learning LearnFault
@@ -45,8 +48,8 @@ noted_in book (Err fault) = Err fault
 
 -- what the connector learns is this note, put into its book
 abbrev pub LearnsByNotes : Type 0
-LearnsByNotes = (book : Book) (request : Request) (answer : Answer)
-    → learn book request answer ≡ noted_in book (note book request answer)
+LearnsByNotes = (keeps : Keeps) (book : Book) (request : Request) (answer : Answer)
+    → learn_at keeps book request answer ≡ noted_in book (note_at keeps book request answer)
 
 -- what was learnt
 abbrev pub learnt_of : Result Learning LearnFault → Result Learnt LearnFault
@@ -99,9 +102,10 @@ learn_fault store.Memory = Memory
 -- ---- news about a record
 
 -- what is learnt about a record from what an answer says, if it says something
-abbrev pub lesson_if : Book → RecordName → Known → Result Finding LearnFault → Result Lesson LearnFault
-lesson_if book name known (Ok said) = lesson book name known said
-lesson_if book name known (Err fault) = Err fault
+abbrev pub lesson_if : Keeps → Book → RecordName → Known → (carried : Option Content) → Result Finding LearnFault
+    → Result Lesson LearnFault
+lesson_if keeps book name known carried (Ok said) = lesson_at keeps book name known carried said
+lesson_if keeps book name known carried (Err fault) = Err fault
 
 -- what is known afterwards
 abbrev pub after_news : News → Known → Known
@@ -151,16 +155,17 @@ IsNewsAt None news = ⊥
 IsNewsAt (Some known) news = IsNewsOf known news
 
 -- what is noted is news about a record of the book
-pub record IsNoted (book : BookMap) (request : Request) (answer : Answer) (name : RecordName)
+pub record IsNoted (keeps : Keeps) (book : BookMap) (request : Request) (answer : Answer) (name : RecordName)
     (news : News) : Type 0 where
   pub known : Known
   pub there : get book name ≡ Some known
-  pub noted : note (book_of book) request answer ≡ Ok (record { name = name; lesson = lesson_of known news })
+  pub noted : note_at keeps (book_of book) request answer ≡ Ok (record { name = name; lesson = lesson_of known news })
   pub is_news : IsNewsOf known news
 
 -- nothing is noted: by the definition, or because memory ran out
-abbrev pub IsNotNoted : BookMap → Request → Answer → LearnFault → Type 0
-IsNotNoted book request answer fault = (fault ≡ Memory) ⊎ (note (book_of book) request answer ≡ Err fault)
+abbrev pub IsNotNoted : Keeps → BookMap → Request → Answer → LearnFault → Type 0
+IsNotNoted keeps book request answer fault =
+    (fault ≡ Memory) ⊎ (note_at keeps (book_of book) request answer ≡ Err fault)
 
 -- the fault of the store, or out of memory
 abbrev pub IsOfJournal : LearnFault → Type 0

@@ -1,12 +1,14 @@
 //! What an answer says about a record.
 ghost use Rattle.std.specs.Prelude.{◌≡◌, ℕ, IfErr, IfOk};
 ghost use Rattle.scim_key.specs.Outcome.{GivesBy};
+ghost use Rattle.connector_core.specs.Keeps.{carried};
 ghost use Rattle.connector_core.specs.Learning as spec;
 ghost use Rattle.connector_core.specs.Maps.{book_of};
 ghost use Rattle.connector_core.specs.Noting.{CountsLearn, IsNewsOf, lesson_if, lesson_of};
 
 use crate::books::Book;
 use crate::fitting::{News, shown};
+use crate::keeps::Keeps;
 use crate::knowledge::{Known, Seen};
 use crate::learning::{LearnFault, Learnt};
 use scim_key::RecordName;
@@ -72,19 +74,22 @@ fn is_under(if_match: &Condition, seen: &Seen) -> bool
 /// The news from a list that answers a search: the resource that was found, or none.
 fn listed(
     alloc: Global,
+    keeps: Keeps,
     book: &Book,
     name: &RecordName,
     known: &Known,
+    request: &Request,
     list: &ListResponse,
 ) -> Result<News, LearnFault>
     ensures gives { GivesBy (lesson_of known.now) LearnFault.Memory result
-        (lesson_if (book_of book.now) name.now known.now (spec.listed list.now.total list.now.resources)) }
+        (lesson_if keeps (book_of book.now) name.now known.now (carried request.now)
+        (spec.listed list.now.total list.now.resources)) }
     ensures news { IfOk result (IsNewsOf known.now) }
     ensures counted { IfErr result (λ fault. (n : ℕ) → CountsLearn n n fault) }
 {
     match list.resources.as_slice() {
         [] if list.total == 0 => Ok(none_shown(known)),
-        [only] if list.total == 1 => shown(alloc, book, name, known, only),
+        [only] if list.total == 1 => shown(alloc, keeps, book, name, known, request, only),
         _ => Err(LearnFault::Unfit),
     }
 }
@@ -92,18 +97,21 @@ fn listed(
 /// The news in the answer to a Create.
 fn from_creating(
     alloc: Global,
+    keeps: Keeps,
     book: &Book,
     name: &RecordName,
     known: &Known,
+    request: &Request,
     answer: &Answer,
 ) -> Result<News, LearnFault>
     ensures gives { GivesBy (lesson_of known.now) LearnFault.Memory result
-        (lesson_if (book_of book.now) name.now known.now (spec.found_creating answer.now)) }
+        (lesson_if keeps (book_of book.now) name.now known.now (carried request.now)
+        (spec.found_creating answer.now)) }
     ensures news { IfOk result (IsNewsOf known.now) }
     ensures counted { IfErr result (λ fault. (n : ℕ) → CountsLearn n n fault) }
 {
     match answer {
-        Answer::Created(resource) => shown(alloc, book, name, known, resource),
+        Answer::Created(resource) => shown(alloc, keeps, book, name, known, request, resource),
         Answer::Error(error) if error.status() == 409 => Ok(forgetting(
             is_absent(&known.seen),
             known,
@@ -118,18 +126,21 @@ fn from_creating(
 /// The news in the answer to a Search.
 fn from_searching(
     alloc: Global,
+    keeps: Keeps,
     book: &Book,
     name: &RecordName,
     known: &Known,
+    request: &Request,
     answer: &Answer,
 ) -> Result<News, LearnFault>
     ensures gives { GivesBy (lesson_of known.now) LearnFault.Memory result
-        (lesson_if (book_of book.now) name.now known.now (spec.found_searching answer.now)) }
+        (lesson_if keeps (book_of book.now) name.now known.now (carried request.now)
+        (spec.found_searching answer.now)) }
     ensures news { IfOk result (IsNewsOf known.now) }
     ensures counted { IfErr result (λ fault. (n : ℕ) → CountsLearn n n fault) }
 {
     match answer {
-        Answer::List(list) => listed(alloc, book, name, known, list),
+        Answer::List(list) => listed(alloc, keeps, book, name, known, request, list),
         Answer::Error(error) => Err(LearnFault::Refused {
             status: error.status(),
         }),
@@ -140,19 +151,22 @@ fn from_searching(
 /// The news in the answer to a Replace under a condition.
 fn from_replacing(
     alloc: Global,
+    keeps: Keeps,
     book: &Book,
     name: &RecordName,
     known: &Known,
+    request: &Request,
     if_match: &Condition,
     answer: &Answer,
 ) -> Result<News, LearnFault>
     ensures gives { GivesBy (lesson_of known.now) LearnFault.Memory result
-        (lesson_if (book_of book.now) name.now known.now (spec.found_replacing if_match.now answer.now)) }
+        (lesson_if keeps (book_of book.now) name.now known.now (carried request.now)
+        (spec.found_replacing if_match.now answer.now)) }
     ensures news { IfOk result (IsNewsOf known.now) }
     ensures counted { IfErr result (λ fault. (n : ℕ) → CountsLearn n n fault) }
 {
     match answer {
-        Answer::Replaced(resource) => shown(alloc, book, name, known, resource),
+        Answer::Replaced(resource) => shown(alloc, keeps, book, name, known, request, resource),
         Answer::Error(error) if error.status() == 412 => {
             Ok(forgetting(is_under(if_match, &known.seen), known))
         }
@@ -166,6 +180,7 @@ fn from_replacing(
 /// The news about a record in the answer to a request.
 pub(crate) fn news_in(
     alloc: Global,
+    keeps: Keeps,
     book: &Book,
     name: &RecordName,
     known: &Known,
@@ -173,15 +188,16 @@ pub(crate) fn news_in(
     answer: &Answer,
 ) -> Result<News, LearnFault>
     ensures gives { GivesBy (lesson_of known.now) LearnFault.Memory result
-        (lesson_if (book_of book.now) name.now known.now (spec.finding request.now answer.now)) }
+        (lesson_if keeps (book_of book.now) name.now known.now (carried request.now)
+        (spec.finding request.now answer.now)) }
     ensures news { IfOk result (IsNewsOf known.now) }
     ensures counted { IfErr result (λ fault. (n : ℕ) → CountsLearn n n fault) }
 {
     match request {
-        Request::Create { .. } => from_creating(alloc, book, name, known, answer),
-        Request::Search { .. } => from_searching(alloc, book, name, known, answer),
+        Request::Create { .. } => from_creating(alloc, keeps, book, name, known, request, answer),
+        Request::Search { .. } => from_searching(alloc, keeps, book, name, known, request, answer),
         Request::Replace { if_match, .. } => from_replacing(
-            alloc, book, name, known, if_match, answer,
+            alloc, keeps, book, name, known, request, if_match, answer,
         ),
         Request::Retrieve { .. } => Err(LearnFault::Unfit),
     }

@@ -8,16 +8,19 @@ ghost use Rattle.scim_resource.specs.Contents.{content_name, content_revision};
 ghost use Rattle.source_csv.specs.Records.{row_revision};
 ghost use Rattle.connector_core.specs.Book.{learning};
 ghost use Rattle.connector_core.specs.History.{same_name};
+ghost use Rattle.connector_core.specs.Keeps.{asked_lesson, carried, lesson_at, only_seen, says, standing_for, unshown_lesson};
 ghost use Rattle.connector_core.specs.Learning as spec;
 ghost use Rattle.connector_core.specs.Maps.{book_of};
 ghost use Rattle.connector_core.specs.Noting.{CountsLearn, IsFit, IsNewsOf, lesson_of, within};
 
 use crate::books::Book;
+use crate::keeps::Keeps;
 use crate::knowledge::{Known, Seen};
 use crate::learning::{LearnFault, Learnt};
-use comparing::is_as_wanted;
+use comparing::{is_active, is_as_wanted};
 use mapping::{ImageFault, row_content};
 use scim_key::{Key, Kind, RecordName, ResourceId, Revision};
+use scim_message::Request;
 use scim_resource::{Content, Shown};
 use scim_version::EntityTag;
 use std::alloc::{AllocError, Global};
@@ -99,17 +102,24 @@ fn revision_within(known: &Known, content: &Content) -> Option<Revision>
     }
 }
 
-/// A shown resource as a sight of the record: it must have the record's name, its known id, a revision up
-/// to the wanted one, and an entity tag.
-fn fit(alloc: Global, name: &RecordName, known: &Known, shown: &Shown) -> Result<Sight, LearnFault>
-    ensures gives { Gives LearnFault.Memory result (spec.fit name.now known.now shown.now) }
+/// A shown resource that stands for a content as a sight of the record: it must have the record's name, its known
+/// id, a revision up to the wanted one, and an entity tag.
+fn fit(
+    alloc: Global,
+    name: &RecordName,
+    known: &Known,
+    content: &Content,
+    shown: &Shown,
+) -> Result<Sight, LearnFault>
+    ensures gives { Gives LearnFault.Memory result
+        (spec.fit name.now known.now (standing_for content.now shown.now)) }
     ensures fit { IfOk result (IsFit known.now) }
     ensures counted { IfErr result (λ fault. (n : ℕ) → CountsLearn n n fault) }
 {
-    if !is_named(name, shown.content()) || !fits_id(known, shown.id()) {
+    if !is_named(name, content) || !fits_id(known, shown.id()) {
         return Err(LearnFault::Unfit);
     }
-    let Some(revision) = revision_within(known, shown.content()) else {
+    let Some(revision) = revision_within(known, content) else {
         return Err(LearnFault::Unfit);
     };
     Ok(Sight {
@@ -214,20 +224,21 @@ fn tag_of(shown: &Shown) -> Result<EntityTag, LearnFault>
     }
 }
 
-/// A shown resource that isn't as it is wanted as a sight of the record: it must have the record's name, a revision up to
-/// the wanted one or none, and an entity tag.
+/// A shown resource that stands for a content that isn't as it is wanted as a sight of the record: it must have the
+/// record's name, a revision up to the wanted one or none, and an entity tag.
 fn fit_differing(
     alloc: Global,
     name: &RecordName,
     known: &Known,
+    content: &Content,
     shown: &Shown,
 ) -> Result<Sight, LearnFault>
     ensures gives { Gives LearnFault.Memory result
-        (spec.fit_differing name.now known.now shown.now) }
+        (spec.fit_differing name.now known.now (standing_for content.now shown.now)) }
     ensures counted { IfErr result (λ fault. (n : ℕ) → CountsLearn n n fault) }
 {
-    let revision = shown_revision(shown.content());
-    if !is_named(name, shown.content()) || known.wanted.revision().is_before(revision) {
+    let revision = shown_revision(content);
+    if !is_named(name, content) || known.wanted.revision().is_before(revision) {
         return Err(LearnFault::Unfit);
     }
     Ok(Sight {
@@ -237,16 +248,29 @@ fn fit_differing(
     })
 }
 
-/// The news about a doubted record from a shown resource.
+/// The news from a resource that was seen and confirms nothing: the record stays in doubt if it is.
+fn differing(known: &Known, sight: Sight) -> News
+    ensures gives { lesson_of known.now result ≡ spec.differing known.now sight }
+    ensures news { IsNewsOf known.now result }
+{
+    News::Passing {
+        seen: seen_at(sight),
+        is_doubted: known.is_doubted,
+        learnt: Learnt::Seen,
+    }
+}
+
+/// The news about a doubted record from a shown resource that stands for a content.
 fn compared(
     alloc: Global,
     agrees: bool,
     name: &RecordName,
     known: &Known,
+    content: &Content,
     shown: &Shown,
 ) -> Result<News, LearnFault>
     ensures gives { GivesBy (lesson_of known.now) LearnFault.Memory result
-        (spec.compared agrees name.now known.now shown.now) }
+        (spec.compared agrees name.now known.now (standing_for content.now shown.now)) }
     ensures news { IfOk result (IsNewsOf known.now) }
     ensures counted { IfErr result (λ fault. (n : ℕ) → CountsLearn n n fault) }
 {
@@ -258,30 +282,122 @@ fn compared(
         };
         return Ok(sighted(alloc, known, sight)?);
     }
-    Ok(News::Passing {
-        seen: seen_at(fit_differing(alloc, name, known, shown)?),
-        is_doubted: known.is_doubted,
-        learnt: Learnt::Seen,
-    })
+    let sight = fit_differing(alloc, name, known, content, shown)?;
+    Ok(differing(known, sight))
 }
 
-/// The news from a shown resource.
-pub(crate) fn shown(
+/// The news from a shown resource that stands for a content.
+fn shown_as(
     alloc: Global,
     book: &Book,
+    name: &RecordName,
+    known: &Known,
+    content: &Content,
+    shown: &Shown,
+) -> Result<News, LearnFault>
+    ensures gives { GivesBy (lesson_of known.now) LearnFault.Memory result
+        (spec.shown_lesson (book_of book.now) name.now known.now (standing_for content.now shown.now)) }
+    ensures news { IfOk result (IsNewsOf known.now) }
+    ensures counted { IfErr result (λ fault. (n : ℕ) → CountsLearn n n fault) }
+{
+    if known.is_doubted {
+        let agrees = is_wanted(alloc, book, known, content)?;
+        return compared(alloc, agrees, name, known, content, shown);
+    }
+    let sight = fit(alloc, name, known, content, shown)?;
+    Ok(sighted(alloc, known, sight)?)
+}
+
+/// Whether a shown resource has the record's name, and is active if the content is that was asked for.
+fn says(name: &RecordName, content: &Content, shown: &Shown) -> bool
+    ensures { result ≡ says name.now content.now shown.now }
+{
+    is_named(name, shown.content()) && is_active(content) == is_active(shown.content())
+}
+
+/// The news from a resource that the answer to a creation or a replacement shows without its revision: it stands for
+/// the content that was asked for.
+fn asked(
+    alloc: Global,
+    book: &Book,
+    name: &RecordName,
+    known: &Known,
+    content: &Content,
+    shown: &Shown,
+) -> Result<News, LearnFault>
+    ensures gives { GivesBy (lesson_of known.now) LearnFault.Memory result
+        (asked_lesson (book_of book.now) name.now known.now content.now shown.now) }
+    ensures news { IfOk result (IsNewsOf known.now) }
+    ensures counted { IfErr result (λ fault. (n : ℕ) → CountsLearn n n fault) }
+{
+    if !says(name, content, shown) {
+        return Err(LearnFault::Unfit);
+    }
+    shown_as(alloc, book, name, known, content, shown)
+}
+
+/// The news from a resource that a search shows without its revision: it is only seen.
+fn only_seen(
+    alloc: Global,
     name: &RecordName,
     known: &Known,
     shown: &Shown,
 ) -> Result<News, LearnFault>
     ensures gives { GivesBy (lesson_of known.now) LearnFault.Memory result
-        (spec.shown_lesson (book_of book.now) name.now known.now shown.now) }
+        (only_seen name.now known.now shown.now) }
     ensures news { IfOk result (IsNewsOf known.now) }
     ensures counted { IfErr result (λ fault. (n : ℕ) → CountsLearn n n fault) }
 {
-    if known.is_doubted {
-        let agrees = is_wanted(alloc, book, known, shown.content())?;
-        return compared(alloc, agrees, name, known, shown);
+    if !is_named(name, shown.content()) {
+        return Err(LearnFault::Unfit);
     }
-    let sight = fit(alloc, name, known, shown)?;
-    Ok(sighted(alloc, known, sight)?)
+    let sight = Sight {
+        tag: tag_of(shown)?,
+        id: shown.id().clone()?,
+        revision: Revision::none(),
+    };
+    Ok(differing(known, sight))
+}
+
+/// The news from a resource that the answer to a request shows without its revision.
+fn unshown(
+    alloc: Global,
+    book: &Book,
+    name: &RecordName,
+    known: &Known,
+    request: &Request,
+    shown: &Shown,
+) -> Result<News, LearnFault>
+    ensures gives { GivesBy (lesson_of known.now) LearnFault.Memory result
+        (unshown_lesson (book_of book.now) name.now known.now (carried request.now) shown.now) }
+    ensures news { IfOk result (IsNewsOf known.now) }
+    ensures counted { IfErr result (λ fault. (n : ℕ) → CountsLearn n n fault) }
+{
+    match request {
+        Request::Create { content } => asked(alloc, book, name, known, content, shown),
+        Request::Replace { content, .. } => asked(alloc, book, name, known, content, shown),
+        Request::Retrieve { .. } => only_seen(alloc, name, known, shown),
+        Request::Search { .. } => only_seen(alloc, name, known, shown),
+    }
+}
+
+/// The news from a resource that the answer to a request shows.
+pub(crate) fn shown(
+    alloc: Global,
+    keeps: Keeps,
+    book: &Book,
+    name: &RecordName,
+    known: &Known,
+    request: &Request,
+    shown: &Shown,
+) -> Result<News, LearnFault>
+    ensures gives { GivesBy (lesson_of known.now) LearnFault.Memory result
+        (lesson_at keeps (book_of book.now) name.now known.now (carried request.now) (spec.Shows shown.now)) }
+    ensures news { IfOk result (IsNewsOf known.now) }
+    ensures counted { IfErr result (λ fault. (n : ℕ) → CountsLearn n n fault) }
+{
+    match keeps {
+        Keeps::Revisions => shown_as(alloc, book, name, known, shown.content(), shown),
+        Keeps::Versions => unshown(alloc, book, name, known, request, shown),
+    }
 }

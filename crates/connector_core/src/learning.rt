@@ -3,15 +3,17 @@ ghost use Rattle.std.specs.Prelude.{◌≡◌, ℕ, IfErr, IfOk, OnErr, OnOk};
 ghost use Rattle.std.specs.FinMap.{get, keys};
 ghost use Rattle.scim_key.specs.Outcome.{Gives};
 ghost use Rattle.journal_core.specs.Calls.{Writes};
-ghost use Rattle.connector_core.specs.Learning.{after_learning, learn, named_alone, or_fault, subject};
+ghost use Rattle.connector_core.specs.Keeps.{learn_at};
+ghost use Rattle.connector_core.specs.Learning.{after_learning, named_alone, or_fault, subject};
 ghost use Rattle.connector_core.specs.Maps.{GivesUnless, book_of, changed};
-ghost use Rattle.connector_core.specs.Noting.{CountsLearn, IsNewsAt, IsNoted, IsNotNoted, IsOfJournal, IsPassing, IsRejection, KeepsEntries, MayStandFor, after_news, entries_with, learnt_of, news_learnt, note, noted_entries};
+ghost use Rattle.connector_core.specs.Noting.{CountsLearn, IsNewsAt, IsNoted, IsNotNoted, IsOfJournal, IsPassing, IsRejection, KeepsEntries, MayStandFor, after_news, entries_with, learnt_of, news_learnt, note_at, noted_entries};
 ghost use Rattle.connector_core.specs.State.{IsKept, Leaves, LeavesBook};
 
 use crate::books::Book;
 use crate::connectors::Connector;
 use crate::findings::news_in;
 use crate::fitting::News;
+use crate::keeps::Keeps;
 use journal_core::Journal;
 use scim_filter::Filter;
 use scim_key::{Kind, RecordName, Revision, StoreFault};
@@ -126,41 +128,47 @@ fn subject(alloc: Global, request: &Request) -> Result<RecordName, LearnFault>
     }
 }
 
-/// The news in the answer to a request, by the book, and the record that it is about.
+/// The news in the answer to a request, by the book and the kind of the provider, and the record that it is about.
 fn judge(
     alloc: Global,
+    keeps: Keeps,
     book: &Book,
     request: &Request,
     answer: &Answer,
 ) -> Result<(RecordName, News), LearnFault>
-    ensures noted { IfOk result (λ found. IsNoted book.now request.now answer.now found.0 found.1) }
-    ensures fault { IfErr result (IsNotNoted book.now request.now answer.now) }
+    ensures noted { IfOk result (λ found. IsNoted keeps book.now request.now answer.now found.0 found.1) }
+    ensures fault { IfErr result (IsNotNoted keeps book.now request.now answer.now) }
     ensures counted { IfErr result (λ fault. (n : ℕ) → CountsLearn n n fault) }
 {
     let name = subject(alloc, request)?;
     let Some(known) = book.get(&name) else {
         return Err(LearnFault::NoSuchRecord);
     };
-    let news = news_in(alloc, book, &name, known, request, answer)?;
+    let news = news_in(alloc, keeps, book, &name, known, request, answer)?;
     Ok((name, news))
 }
 
 impl<J: Journal> Connector<J> {
-    /// Learns from the answer to a request. The answer may be an old one.
-    pub fn learn(&mut self, request: &Request, answer: &Answer) -> Result<Learnt, LearnFault>
+    /// Learns from the answer of a provider of this kind to a request. The answer may be an old one.
+    pub fn learn(
+        &mut self,
+        keeps: Keeps,
+        request: &Request,
+        answer: &Answer,
+    ) -> Result<Learnt, LearnFault>
         ensures learnt { GivesUnless
-            (MayStandFor (learn (book_of self.old.book) request.now answer.now)) result
-            (learnt_of (learn (book_of self.old.book) request.now answer.now)) }
+            (MayStandFor (learn_at keeps (book_of self.old.book) request.now answer.now)) result
+            (learnt_of (learn_at keeps (book_of self.old.book) request.now answer.now)) }
         ensures ok { OnOk result (book_of self.new.book
             ≡ after_learning (book_of self.old.book)
-            (learn (book_of self.old.book) request.now answer.now)) }
+            (learn_at keeps (book_of self.old.book) request.now answer.now)) }
         ensures err { OnErr result (self.new.book ≡ self.old.book) }
         ensures names { keys self.new.book ≡ keys self.old.book }
         ensures kept { J.is_faithful self.new.journal
             → IsKept (J.entries self.new.journal) self.new.book }
         ensures journal { Writes J.Journal CountsLearn self.old.journal self.new.journal
             (noted_entries (J.entries self.old.journal)
-            (note (book_of self.old.book) request.now answer.now)) result }
+            (note_at keeps (book_of self.old.book) request.now answer.now)) result }
         ensures quiet { KeepsEntries self.old.book self.new.book
             → J.writes self.new.journal ≡ J.writes self.old.journal }
         ensures rejected { IfErr result (λ fault. IsRejection fault
@@ -170,10 +178,10 @@ impl<J: Journal> Connector<J> {
         ensures leaves { J.is_honest self.new.journal → LeavesBook J.Journal self.old
             → Leaves J.Journal self.old self.new
             (after_learning (book_of self.old.book)
-            (learn (book_of self.old.book) request.now answer.now))
+            (learn_at keeps (book_of self.old.book) request.now answer.now))
             (keys self.old.book) result }
     {
-        let (name, news) = judge(self.alloc, &self.book, request, answer)?;
+        let (name, news) = judge(self.alloc, keeps, &self.book, request, answer)?;
         self.take_news(&name, news)
     }
 

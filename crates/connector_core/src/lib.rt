@@ -9,6 +9,7 @@ mod changing;
 mod connectors;
 mod findings;
 mod fitting;
+mod keeps;
 mod knowledge;
 mod laws;
 mod learning;
@@ -22,6 +23,7 @@ pub use accepting::{
 pub use asking::{Ask, AskFault, MOST_EXCHANGES, search_for};
 pub use changing::{ChangeFault, member_at};
 pub use connectors::Connector;
+pub use keeps::Keeps;
 pub use knowledge::{Known, Seen};
 pub use laws::{
     answers_stand_for_what_was_asked, learns_by_notes, maps_are_books, memory_never_faults,

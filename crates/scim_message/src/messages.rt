@@ -1,11 +1,12 @@
 //! Requests and answers (RFC 7644 section 3).
 ghost use Rattle.std.specs.Prelude.{◌≡◌, ◌≤◌};
-ghost use Rattle.scim_message.specs.Messages.{answer_status};
+ghost use Rattle.scim_resource.specs.Users.{IsSourceRevision};
+ghost use Rattle.scim_message.specs.Messages.{answer_status, request_revision, request_with};
 
 use crate::lists::ListResponse;
 use crate::refusals::ErrorResponse;
 use scim_filter::Filter;
-use scim_key::{Kind, ResourceId};
+use scim_key::{Kind, ResourceId, Revision};
 use scim_resource::{Content, Shown};
 use scim_version::{Condition, EntityTag};
 
@@ -38,6 +39,43 @@ pub enum Request {
         if_match: Condition,
         if_none_match: Condition,
     },
+}
+
+impl Request {
+    /// The source revision of the content, if there is one.
+    pub fn revision(&self) -> Option<Revision>
+        ensures value { result ≡ request_revision self.now }
+        ensures lawful { IsSourceRevision result }
+    {
+        match self {
+            Request::Create { content } | Request::Replace { content, .. } => content.revision(),
+            Request::Retrieve { .. } | Request::Search { .. } => None,
+        }
+    }
+
+    /// The request with a content of this source revision, or of none.
+    pub fn with_revision(self, revision: Option<Revision>) -> Request
+        requires { IsSourceRevision revision }
+        ensures { result ≡ request_with revision self }
+    {
+        match self {
+            Request::Create { content } => Request::Create {
+                content: content.with_revision(revision),
+            },
+            Request::Replace {
+                id,
+                content,
+                if_match,
+                if_none_match,
+            } => Request::Replace {
+                id,
+                content: content.with_revision(revision),
+                if_match,
+                if_none_match,
+            },
+            other => other,
+        }
+    }
 }
 
 /// What the provider answers.

@@ -33,6 +33,11 @@ abbrev pub content_revision : Content → Option RevisionValue
 content_revision (User u) = u.revision
 content_revision (Group g) = g.revision
 
+-- the same content with this revision, or with none
+abbrev pub content_with : Option RevisionValue → Content → Content
+content_with revision (User u) = User (record u { revision = revision })
+content_with revision (Group g) = Group (record g { revision = revision })
+
 -- whether a user's account is active; none for a group
 abbrev pub content_active : Content → Option Bool
 content_active (User u) = Some u.active

@@ -1,6 +1,6 @@
 //! The content of a resource.
 ghost use Rattle.std.specs.Prelude.{◌≡◌, ◌↔◌, IfOk, IsTrue};
-ghost use Rattle.scim_resource.specs.Contents.{content_active, content_kind, content_members, content_name, content_revision, spelled_name};
+ghost use Rattle.scim_resource.specs.Contents.{content_active, content_kind, content_members, content_name, content_revision, content_with, spelled_name};
 ghost use Rattle.scim_resource.specs.Users.{IsSourceRevision};
 
 use crate::groups::Group;
@@ -45,6 +45,17 @@ impl Content {
         match self {
             Content::User(user) => user.revision(),
             Content::Group(group) => group.revision(),
+        }
+    }
+
+    /// The content as the image of this source revision, or of none.
+    pub fn with_revision(self, revision: Option<Revision>) -> Content
+        requires { IsSourceRevision revision }
+        ensures { result ≡ content_with revision self }
+    {
+        match self {
+            Content::User(user) => Content::User(user.with_revision(revision)),
+            Content::Group(group) => Content::Group(group.with_revision(revision)),
         }
     }
 

@@ -165,6 +165,15 @@ impl Group {
         self
     }
 
+    /// The group as the image of this source revision, or of none.
+    pub fn with_revision(mut self, revision: Option<Revision>) -> Group
+        requires { IsSourceRevision revision }
+        ensures { result ≡ record self { revision = revision } }
+    {
+        self.revision = revision;
+        self
+    }
+
     /// The name as it was spelled.
     pub fn display_name(&self) -> &GroupName
         ensures { result.now ≡ self.now.display_name }

@@ -98,6 +98,15 @@ impl User {
         self
     }
 
+    /// The user as the image of this source revision, or of none.
+    pub fn with_revision(mut self, revision: Option<Revision>) -> User
+        requires { IsSourceRevision revision }
+        ensures { result ≡ record self { revision = revision } }
+    {
+        self.revision = revision;
+        self
+    }
+
     /// The name as it was spelled.
     pub fn user_name(&self) -> &UserName
         ensures { result.now ≡ self.now.user_name }

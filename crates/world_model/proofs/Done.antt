@@ -7,7 +7,7 @@ use Rattle.provider_core.proofs.TableLaws.{held_at}
 use Rattle.source_csv.specs.Records.{row_revision}
 use Rattle.mapping.specs.Images.{image}
 use Rattle.connector_core.specs.History.{rows_of}
-use Rattle.connector_core.specs.Keeps.{Keeps}
+use Rattle.connector_core.specs.declared.keeps.Keeps.{Keeps}
 use Rattle.connector_core.specs.declared.knowledge.Known.{Known}
 use Rattle.world_model.specs.Safe.{Has, id_in}
 use Rattle.world_model.specs.Settled.{IsSettledOf}

@@ -30,6 +30,7 @@ use Rattle.connector_core.specs.Accepting.{accepting}
 use Rattle.connector_core.specs.History.{History, rows_of, same_name}
 use Rattle.connector_core.specs.Asking.{asking, asking_of, is_done, request_for, search_for}
 use Rattle.connector_core.specs.Book.{Book, known_id, put, wanting, undoubted, doubting}
+use Rattle.connector_core.specs.declared.keeps.Keeps.TheVariants.{Revisions}
 use Rattle.connector_core.specs.Learning.{Finding, Shows, Sight, Lesson, seen_at, sighted, absent, nothing_new, none_sighted, forgetting, is_absent, is_under, differing, or_no_revision, shown_revision, Learning, learn, after_learning}
 use Rattle.connector_core.specs.declared.accepting.Verdict.{Verdict}
 use Rattle.connector_core.specs.declared.accepting.Verdict.TheVariants as verdicts
@@ -54,7 +55,7 @@ use Rattle.world_model.proofs.Imaging.{image_more, image_name, image_revision}
 use Rattle.world_model.proofs.Invariant.{message_there}
 use Rattle.world_model.proofs.Judging.{event_follows, judged_by_source}
 use Rattle.world_model.proofs.Keeping.{step_grows}
-use Rattle.world_model.proofs.Learned.{LearnsShown, LearnsShown.sees, LearnsShown.agrees, LearnsShown.differs, Learns, Learns.shows, Learns.misses, Learns.is_taken, Learns.is_stale, learnt_by, shows_first}
+use Rattle.world_model.proofs.Learned.{LearnsShown, LearnsShown.sees, LearnsShown.agrees, LearnsShown.differs, LearnsShown.only, Learns, Learns.shows, Learns.misses, Learns.is_taken, Learns.is_stale, learnt_by, never_only, shows_first}
 use Rattle.world_model.proofs.Lists.{last_has}
 use Rattle.world_model.proofs.Noting.{none_sighted_id, forgetting_id}
 use Rattle.world_model.proofs.Sending.{asked_of, sends_of, row_of_record, wanted_of}
@@ -266,7 +267,7 @@ module _ (es : List Entry) (whole : IsWholeTable es) (book : Book) (name : Recor
     seen = at_sight (sighted known sight).known sight (seen_fact s fact named sight tagged same_id revised) up refl;
   }
 
-  shown_true : (s : ShownRecord) {l : Lesson} → IsFact es s → LearnsShown book name known s l → IsTrue es name l.known
+  shown_true : (s : ShownRecord) {l : Lesson} → IsFact es s → LearnsShown Revisions book name known s l → IsTrue es name l.known
   shown_true s fact (sees sight fits) =
       sighted_true s sight fact ((same_names name (content_name s.content)).0 fits.named) fits.tag fits.id (ap or_no_revision fits.revision) (not-true _ fits.within)
   shown_true s fact (agrees tag wanted tagged) =
@@ -277,6 +278,7 @@ module _ (es : List Entry) (whole : IsWholeTable es) (book : Book) (name : Recor
     seen = at_sight (differing known sight).known sight (seen_fact s fact ((same_names name (content_name s.content)).0 d.named) sight d.tag d.id (sym d.revision))
         (subst (λ (r : RevisionValue). r ≼ row_revision known.wanted) (sym d.revision) (not-true _ d.within)) refl;
   }
+  shown_true s fact (only tag o) = never_only o
 
   absent_seen : IsSeenTrue es name (absent known).known
   absent_seen id tag r at = absurd (cc)
@@ -293,7 +295,7 @@ module _ (es : List Entry) (whole : IsWholeTable es) (book : Book) (name : Recor
   forgetting_seen true id tag r at = absurd (cc)
   forgetting_seen false id tag r at = its.seen id tag r at
 
-  lesson_true : {said : Finding} {l : Lesson} → ((s : ShownRecord) → said ≡ Shows s → IsFact es s) → Learns book name known said l → IsTrue es name l.known
+  lesson_true : {said : Finding} {l : Lesson} → ((s : ShownRecord) → said ≡ Shows s → IsFact es s) → Learns Revisions book name known said l → IsTrue es name l.known
   lesson_true facts (shows s l learns) = shown_true s (facts s refl) learns
   lesson_true facts misses = record { its_id = λ id has. its.its_id id (sym (none_sighted_id known.id known) ∙ has); seen = none_seen known.id }
   lesson_true facts is_taken = record { its_id = λ id has. its.its_id id (sym (forgetting_id (is_absent known.seen) known) ∙ has); seen = forgetting_seen (is_absent known.seen) }
@@ -306,7 +308,7 @@ learnt_true w request answer t truly = go (learn w.book request answer) refl
     go : (r : Result Learning LearnFault) → learn w.book request answer ≡ r → AllTrue w.entries (after_learning w.book r)
     go (Err fault) is = t.known
     go (Ok learning) is =
-        let x = learnt_by w.book request answer learning is in
+        let x = learnt_by Revisions w.book request answer learning is in
         subst (λ (b : Book). AllTrue w.entries b) (sym x.book_after)
         (put_true w.entries w.book x.name x.teaches.known t.known
         (lesson_true w.entries t.whole w.book x.name x.known (t.known x.name x.known x.in_book) (its_name w t x.name x.known x.in_book)

@@ -10,7 +10,9 @@ use Rattle.scim_message.specs.declared.messages.Answer.{Answer}
 use Rattle.provider_core.specs.Stories.{step}
 use Rattle.provider_core.proofs.TableLaws.{at_end}
 use Rattle.connector_core.specs.Asking.{asking}
-use Rattle.connector_core.specs.Keeps.{Keeps, Revisions, Versions, learn_at}
+use Rattle.connector_core.specs.Keeps.{learn_at}
+use Rattle.connector_core.specs.declared.keeps.Keeps.{Keeps}
+use Rattle.connector_core.specs.declared.keeps.Keeps.TheVariants.{Revisions, Versions}
 use Rattle.connector_core.specs.Learning.{learn, after_learning}
 use Rattle.connector_core.specs.declared.asking.Ask.{Ask}
 use Rattle.connector_core.specs.declared.asking.Ask.TheVariants.{Send}

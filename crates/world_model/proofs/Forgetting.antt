@@ -10,7 +10,7 @@ use Rattle.scim_key.specs.declared.records.RecordName.{RecordName}
 use Rattle.scim_version.specs.Tags.{version_tag}
 use Rattle.scim_version.specs.Conditions.{holds_match, holds_none_match}
 use Rattle.scim_version.specs.declared.conditions.Condition.{Condition}
-use Rattle.scim_resource.specs.Contents.{content_kind, content_name}
+use Rattle.scim_resource.specs.Contents.{content_kind, content_name, content_with}
 use Rattle.scim_resource.specs.Rows.{ShownRecord, StoredRecord, shown, last_version}
 use Rattle.scim_resource.specs.declared.contents.Content.{Content}
 use Rattle.scim_resource.specs.declared.contents.Content.TheVariants as contents
@@ -23,6 +23,7 @@ use Rattle.scim_filter.specs.declared.terms.FlagAttribute.TheVariants.{Active, E
 use Rattle.scim_filter.specs.declared.terms.Attribute.TheVariants.{OfText, OfFlag}
 use Rattle.scim_filter.specs.declared.terms.Test.{Test}
 use Rattle.scim_filter.specs.declared.terms.Test.TheVariants as tests
+use Rattle.scim_message.specs.Messages.{request_with}
 use Rattle.scim_message.specs.declared.messages.Request.{Request}
 use Rattle.scim_message.specs.declared.messages.Request.TheVariants.{Create, Retrieve, Search, Replace}
 use Rattle.scim_message.specs.declared.messages.Answer.{Answer}
@@ -32,8 +33,8 @@ use Rattle.provider_core.specs.Rows.{same_kind, same_name}
 use Rattle.provider_core.specs.Outcomes.{most_resources}
 use Rattle.provider_core.specs.Searches.{is_wanted, listing, page_from, first_place, page_size}
 use Rattle.provider_core.specs.Stories.{Entry, story, first_entry, row_of, is_entry_of, Numbered, numbered_from, has_entry_id, if_entry_of_kind, entry_with_id, renew_at, is_entry_hit, found_entries, Step, creating_entry, writing_entry, replacing_entry, reading_entry, retrieving_entry, step}
-use Rattle.connector_core.specs.Keeps.{content_with, shown_with, forgot}
-use Rattle.world_model.specs.Providers.{forgot_entry, forgot_entries, forgot_request, AlwaysForgets}
+use Rattle.connector_core.specs.Keeps.{shown_with, forgot}
+use Rattle.world_model.specs.Providers.{forgot_entry, forgot_entries, AlwaysForgets}
 use Rattle.world_model.proofs.Hearing.{name_with}
 
 -- ---- filters see no revision
@@ -250,7 +251,7 @@ list_with start count xs =
 
 -- ---- every request
 
-forgets : (es : List Entry) (request : Request) → step (forgot_entries es) (forgot_request request) ≡ forgot_step (step es request)
+forgets : (es : List Entry) (request : Request) → step (forgot_entries es) (request_with None request) ≡ forgot_step (step es request)
 forgets es (Create c) =
     ap (λ (name : RecordName). creating_entry (find (is_entry_of name) (forgot_entries es)) (nat_le most_resources (length (forgot_entries es))) (forgot_entries es) (fc c)) (name_with None c)
     ∙ ap (λ (taken : Option Entry). creating_entry taken (nat_le most_resources (length (forgot_entries es))) (forgot_entries es) (fc c))

@@ -8,7 +8,7 @@ use Rattle.scim_resource.specs.Rows.{StoredRecord}
 use Rattle.scim_resource.specs.declared.contents.Content.{Content}
 use Rattle.provider_core.specs.Stories.{Entry, story, row_of, rows_from, AllGoOn}
 use Rattle.provider_core.proofs.TableLaws.{at_more, held_at, go_on_at}
-use Rattle.connector_core.specs.Keeps.{Keeps}
+use Rattle.connector_core.specs.declared.keeps.Keeps.{Keeps}
 use Rattle.connector_core.specs.Learning.{content_revision}
 use Rattle.connector_core.specs.declared.knowledge.Known.{Known}
 use Rattle.world_model.specs.World.{World, empty, run}

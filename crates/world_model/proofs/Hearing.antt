@@ -1,11 +1,10 @@
 -- What the connector hears in an answer of each kind of provider: what is written is what the request carried.
-use Rattle.std.proofs.Common.{◌≡◌, ℕ, zero, suc, Bool, true, false, cond, ◌&&◌, ◌==◌, List, [], ◌∷◌, map, length, Option, Some, None, Ok, Err, ◌⊎◌, inl, inr, refl, ap, sym, ◌∙◌, subst}
-use Rattle.std.specs.List.{list_all}
+use Rattle.std.proofs.Common.{◌≡◌, ℕ, zero, suc, Bool, true, false, ◌&&◌, List, [], ◌∷◌, map, length, Option, Some, None, Ok, ◌⊎◌, inl, inr, refl, ap, sym, ◌∙◌, subst}
 use Rattle.scim_key.proofs.RecordLaws.{same as same_names}
-use Rattle.scim_key.specs.Outcome.{◌>>=◌}
 use Rattle.scim_key.specs.Revisions.{RevisionValue, no_revision}
+use Rattle.scim_key.specs.declared.records.RecordName.{RecordName}
 use Rattle.scim_version.specs.declared.conditions.Condition.{Condition}
-use Rattle.scim_resource.specs.Contents.{content_name, content_revision}
+use Rattle.scim_resource.specs.Contents.{content_name, content_revision, content_with}
 use Rattle.scim_resource.specs.Rows.{ShownRecord, shown}
 use Rattle.scim_resource.specs.declared.contents.Content.{Content}
 use Rattle.scim_resource.specs.declared.contents.Content.TheVariants as contents
@@ -22,11 +21,11 @@ use Rattle.source_csv.specs.declared.rows.Row.{Row}
 use Rattle.source_csv.specs.declared.rows.Row.TheVariants.{User, Group}
 use Rattle.connector_core.specs.Asking.{search_for}
 use Rattle.connector_core.specs.History.{same_name}
-use Rattle.connector_core.specs.Book.{Book}
-use Rattle.connector_core.specs.Keeps.{Keeps, Revisions, Versions, content_with, shown_with, filling, answer_with, forgot, filled, heard, resources_of, says, shows_what_was_asked, learn_at}
-use Rattle.connector_core.specs.Learning.{Finding, Shows, Shows_none, Taken, Stale, listed, finding, fault_unless, learn, after_learning}
-use Rattle.connector_core.specs.declared.learning.LearnFault.{LearnFault}
-use Rattle.connector_core.specs.declared.learning.LearnFault.TheVariants.{Unfit}
+use Rattle.connector_core.specs.Keeps.{shown_with, filling, answer_with, carried, forgot, heard, says}
+use Rattle.connector_core.specs.declared.keeps.Keeps.{Keeps}
+use Rattle.connector_core.specs.declared.keeps.Keeps.TheVariants.{Revisions, Versions}
+use Rattle.connector_core.proofs.Standing.{finding_with, said_with}
+use Rattle.connector_core.specs.Learning.{Finding, Shows, Shows_none, Taken, Stale, finding}
 use Rattle.world_model.specs.Safe.{IsAt}
 use Rattle.world_model.specs.World.{World, Message, Asked, Answered, Event, Changes, Sends, Delivers, Cuts, Restarts_provider, Restarts_connector, Doubts, delivers, message_at, happens, run}
 use Rattle.world_model.specs.Providers.{answered, delivers_at, happens_at, run_at}
@@ -119,18 +118,6 @@ pub answered_truly : (keeps : Keeps) (es : List Entry) (request : Request) → R
 answered_truly Revisions es request = answers_show_facts es request
 answered_truly Versions es request = forgot_truly es request
 
--- ---- what is learnt
-
--- what is so of the book, and after learning from what the answer stands for, is so after learning from the answer
-pub by_hearing : (keeps : Keeps) (P : Book → Type 0) (book : Book) (request : Request) (answer : Answer) → P book → P (after_learning book (learn book request (heard keeps request answer)))
-    → P (after_learning book (learn_at keeps book request answer))
-by_hearing Revisions P book request answer before now = now
-by_hearing Versions P book request answer before now = go (shows_what_was_asked request answer)
-  where
-    go : (b : Bool) → P (after_learning book (fault_unless Unfit b >>= λ _. learn book request (heard Versions request answer)))
-    go true = now
-    go false = before
-
 -- ---- what an answer says
 
 -- what is heard in the place of a shown resource
@@ -165,52 +152,14 @@ pub hearing_replaced : (keeps : Keeps) (id : List ℕ) (c : Content) (m n : Cond
 hearing_replaced Revisions id c m n s is = is
 hearing_replaced Versions id c m n s is = refl
 
-abbrev said_with : (ShownRecord → ShownRecord) → Finding → Finding
-said_with f (Shows s) = Shows (f s)
-said_with f Shows_none = Shows_none
-said_with f Taken = Taken
-said_with f (Stale if_match) = Stale if_match
+-- what a provider says of what was found
+abbrev pub answered_said : Keeps → Finding → Finding
+answered_said Revisions said = said
+answered_said Versions said = said_with (shown_with None) said
 
-listed_with : (f : ShownRecord → ShownRecord) (total : ℕ) (xs : List ShownRecord) (said : Finding) → listed total xs ≡ Ok said → listed total (map f xs) ≡ Ok (said_with f said)
-listed_with f total [] said is = go (total == 0) is
-  where
-    go : (b : Bool) → cond b (Ok Shows_none) (Err Unfit) ≡ Ok said → cond b (Ok Shows_none) (Err Unfit) ≡ Ok (said_with f said)
-    go true was = let same : Shows_none ≡ said = cc in ap (λ (x : Finding). Ok (said_with f x)) same
-    go false was = absurd (cc)
-listed_with f total (x ∷ []) said is = go (total == 1) is
-  where
-    go : (b : Bool) → cond b (Ok (Shows x)) (Err Unfit) ≡ Ok said → cond b (Ok (Shows (f x))) (Err Unfit) ≡ Ok (said_with f said)
-    go true was = let same : Shows x ≡ said = cc in ap (λ (y : Finding). Ok (said_with f y)) same
-    go false was = absurd (cc)
-listed_with f total (x ∷ y ∷ more) said is = absurd (cc)
-
--- a refusal shows no resource
-refused_with : (f : ShownRecord → ShownRecord) (b : Bool) (shows said : Finding) (fault : LearnFault) → said_with f shows ≡ shows → cond b (Ok shows) (Err fault) ≡ Ok said → cond b (Ok shows) (Err fault) ≡ Ok (said_with f said)
-refused_with f true shows said fault fixed is =
-    let same : shows ≡ said = cc in
-    ap Ok (sym fixed ∙ ap (said_with f) same)
-refused_with f false shows said fault fixed is = absurd (cc)
-
-finding_with : (f : ShownRecord → ShownRecord) (request : Request) (answer : Answer) (said : Finding) → finding request answer ≡ Ok said → finding request (answer_with f answer) ≡ Ok (said_with f said)
-finding_with f (Create c) (Created s) said is = let same : Shows s ≡ said = cc in ap (λ (x : Finding). Ok (said_with f x)) same
-finding_with f (Create c) (Found s) said is = absurd (cc)
-finding_with f (Create c) (Replaced s) said is = absurd (cc)
-finding_with f (Create c) (answers.List list) said is = absurd (cc)
-finding_with f (Create c) (NotModified kind id version) said is = absurd (cc)
-finding_with f (Create c) (Error error) said is = refused_with f _ Taken said _ refl is
-finding_with f (Retrieve kind id m n) answer said is = absurd (cc)
-finding_with f (Search kind wanted start count) (Created s) said is = absurd (cc)
-finding_with f (Search kind wanted start count) (Found s) said is = absurd (cc)
-finding_with f (Search kind wanted start count) (Replaced s) said is = absurd (cc)
-finding_with f (Search kind wanted start count) (answers.List list) said is = listed_with f list.total list.resources said is
-finding_with f (Search kind wanted start count) (NotModified k id version) said is = absurd (cc)
-finding_with f (Search kind wanted start count) (Error error) said is = absurd (cc)
-finding_with f (Replace id c m n) (Created s) said is = absurd (cc)
-finding_with f (Replace id c m n) (Found s) said is = absurd (cc)
-finding_with f (Replace id c m n) (Replaced s) said is = let same : Shows s ≡ said = cc in ap (λ (x : Finding). Ok (said_with f x)) same
-finding_with f (Replace id c m n) (answers.List list) said is = absurd (cc)
-finding_with f (Replace id c m n) (NotModified kind i version) said is = absurd (cc)
-finding_with f (Replace id c m n) (Error error) said is = refused_with f _ (Stale m) said _ refl is
+pub says_answered : (keeps : Keeps) (request : Request) (answer : Answer) (said : Finding) → finding request answer ≡ Ok said → finding request (answered keeps answer) ≡ Ok (answered_said keeps said)
+says_answered Revisions request answer said is = is
+says_answered Versions request answer said is = finding_with (shown_with None) request answer said is
 
 same_said : (request : Request) (said : Finding) → said ≡ heard_said Revisions request said
 same_said request (Shows s) = refl
@@ -232,18 +181,6 @@ hears Versions request answer said is =
 
 -- ---- an answer shows what was asked
 
-pub resources_shown : (answer : Answer) → resources_of answer ≡ shown_in answer
-resources_shown (Created s) = refl
-resources_shown (Found s) = refl
-resources_shown (Replaced s) = refl
-resources_shown (answers.List list) = refl
-resources_shown (NotModified kind id version) = refl
-resources_shown (Error error) = refl
-
-all_pass : (p : ShownRecord → Bool) (xs : List ShownRecord) → ((i : ℕ) (x : ShownRecord) → IsAt xs i x → p x ≡ true) → list_all p xs ≡ true
-all_pass p [] each = refl
-all_pass p (x ∷ xs) each = rw (each 0 x refl, all_pass p xs (λ i y at. each (suc i) y at)) refl
-
 active_with : (r : Option RevisionValue) (c : Content) → is_active (content_with r c) ≡ is_active c
 active_with r (contents.User u) = refl
 active_with r (contents.Group g) = refl
@@ -255,30 +192,20 @@ same_flag_itself false = refl
 both : (a b : Bool) → a ≡ true → b ≡ true → (a && b) ≡ true
 both a b is_a is_b = rw (is_a, is_b) refl
 
-says_itself : (c : Content) (s : ShownRecord) → content_with None c ≡ s.content → says c s ≡ true
-says_itself c s is =
-    let named : content_name s.content ≡ content_name c = ap content_name (sym is) ∙ name_with None c in
-    let active : is_active s.content ≡ is_active c = ap is_active (sym is) ∙ active_with None c in
-    both (same_name (content_name c) (content_name s.content)) (same_flag (is_active c) (is_active s.content)) ((same_names (content_name c) (content_name s.content)).1 (sym named))
+-- what was written says what was asked, also if its revision is forgotten
+pub says_itself : (name : RecordName) (c : Content) (s : ShownRecord) → content_name c ≡ name → c ≡ s.content → says name c (shown_with None s) ≡ true
+says_itself name c s its is =
+    let named : name ≡ content_name (content_with None s.content) = sym its ∙ ap content_name is ∙ sym (name_with None s.content) in
+    let active : is_active (content_with None s.content) ≡ is_active c = active_with None s.content ∙ ap is_active (sym is) in
+    both (same_name name (content_name (content_with None s.content))) (same_flag (is_active c) (is_active (content_with None s.content))) ((same_names name (content_name (content_with None s.content))).1 named)
     (ap (same_flag (is_active c)) active ∙ same_flag_itself (is_active c))
 
-written_shown : (c : Content) (answer : Answer) → ((i : ℕ) (x : ShownRecord) → IsAt (shown_in answer) i x → c ≡ x.content) → list_all (says c) (resources_of (forgot answer)) ≡ true
-written_shown c answer shows = rw (resources_shown (forgot answer)) (all_pass (says c) (shown_in (forgot answer)) (λ i s at.
-    let (x, at_x, same) = at_with (shown_with None) answer i s at in
-    says_itself c s (ap (content_with None) (shows i x at_x) ∙ ap (λ (t : ShownRecord). t.content) same)))
-
-asked_shown : (es : List Entry) (request : Request) → shows_what_was_asked request (forgot (step es request).answer) ≡ true
-asked_shown es (Create c) = written_shown c (step es (Create c)).answer (λ i x at. create_shows _ _ es c i x at)
-asked_shown es (Retrieve kind id m n) = refl
-asked_shown es (Search kind wanted start count) = refl
-asked_shown es (Replace id c m n) = written_shown c (step es (Replace id c m n)).answer (λ i x at. replace_shows _ es c m n i x at)
-
--- so the connector learns from what the answer stands for
-pub learn_heard : (keeps : Keeps) (book : Book) (es : List Entry) (request : Request)
-    → learn_at keeps book request (answered keeps (step es request).answer) ≡ learn book request (heard keeps request (answered keeps (step es request).answer))
-learn_heard Revisions book es request = refl
-learn_heard Versions book es request =
-    ap (λ (b : Bool). fault_unless Unfit b >>= λ _. learn book request (filled request (forgot (step es request).answer))) (asked_shown es request)
+-- what a provider shows of what was written is what the request carried
+pub carried_shown : (es : List Entry) (request : Request) (c : Content) → carried request ≡ Some c → (i : ℕ) (x : ShownRecord) → IsAt (shown_in (step es request).answer) i x → c ≡ x.content
+carried_shown es (Create content) c has i x at = let same : content ≡ c = cc in sym same ∙ create_shows _ _ es content i x at
+carried_shown es (Retrieve kind id m n) c has i x at = absurd (cc)
+carried_shown es (Search kind wanted start count) c has i x at = absurd (cc)
+carried_shown es (Replace id content m n) c has i x at = let same : content ≡ c = cc in sym same ∙ replace_shows _ es content m n i x at
 
 -- ---- with a provider that keeps revisions
 

@@ -18,6 +18,7 @@ use Rattle.connector_core.specs.Accepting.{accepting}
 use Rattle.connector_core.specs.History.{same_name}
 use Rattle.connector_core.specs.Asking.{asking}
 use Rattle.connector_core.specs.Book.{Book, put, wanting, undoubted, doubting}
+use Rattle.connector_core.specs.declared.keeps.Keeps.TheVariants.{Revisions}
 use Rattle.connector_core.specs.Learning.{Finding, absent, nothing_new, none_sighted, forgetting, is_absent, is_under, Lesson, Learning, learn, after_learning}
 use Rattle.connector_core.specs.declared.accepting.Verdict.{Verdict}
 use Rattle.connector_core.specs.declared.accepting.Verdict.TheVariants as verdicts
@@ -34,7 +35,7 @@ use Rattle.world_model.specs.Untroubled.{IsLawful}
 use Rattle.world_model.specs.World.{World, Message, Asked, Answered, Event, Changes, Sends, Delivers, Cuts, Restarts_provider, Restarts_connector, Doubts, changes, sends, delivers, message_at, happens, judged, empty}
 use Rattle.world_model.proofs.Accepting.{new_by_source}
 use Rattle.world_model.proofs.Judging.{event_follows, judged_by_source}
-use Rattle.world_model.proofs.Learned.{LearnsShown, LearnsShown.sees, LearnsShown.agrees, LearnsShown.differs, Learns, Learns.shows, Learns.misses, Learns.is_taken, Learns.is_stale, learnt_by}
+use Rattle.world_model.proofs.Learned.{LearnsShown, LearnsShown.sees, LearnsShown.agrees, LearnsShown.differs, LearnsShown.only, Learns, Learns.shows, Learns.misses, Learns.is_taken, Learns.is_stale, learnt_by}
 use Rattle.world_model.proofs.Making.{put_one}
 use Rattle.world_model.proofs.Order.{later_within}
 
@@ -83,12 +84,13 @@ forgetting_within true known within = within
 forgetting_within false known within = within
 
 module _ (book : Book) (name : RecordName) (known : Known) (within : IsWithin known) where
-  shown_within : (s : ShownRecord) {l : Lesson} → LearnsShown book name known s l → IsWithin l.known
+  shown_within : (s : ShownRecord) {l : Lesson} → LearnsShown Revisions book name known s l → IsWithin l.known
   shown_within s (sees sight fits) = later_within known.confirmed sight.revision (row_revision known.wanted) within (not-true _ fits.within)
   shown_within s (agrees tag wanted tagged) = later_within known.confirmed (row_revision known.wanted) (row_revision known.wanted) within (reflexive_up_to (row_revision known.wanted))
   shown_within s (differs sight d) = within
+  shown_within s (only tag o) = within
 
-  lesson_within : {said : Finding} {l : Lesson} → Learns book name known said l → IsWithin l.known
+  lesson_within : {said : Finding} {l : Lesson} → Learns Revisions book name known said l → IsWithin l.known
   lesson_within (shows s l learns) = shown_within s learns
   lesson_within misses = none_sighted_within known.id known within
   lesson_within is_taken = forgetting_within (is_absent known.seen) known within
@@ -100,7 +102,7 @@ learning_within book request answer within = go (learn book request answer) refl
     go : (r : Result Learning LearnFault) → learn book request answer ≡ r → AllWithin (after_learning book r)
     go (Err fault) is = within
     go (Ok learning) is =
-        let t = learnt_by book request answer learning is in
+        let t = learnt_by Revisions book request answer learning is in
         subst AllWithin (sym t.book_after) (put_within book t.name t.teaches.known within (lesson_within book t.name t.known (within t.name t.known t.in_book) t.learns))
 
 -- ---- every act

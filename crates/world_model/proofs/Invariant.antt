@@ -24,17 +24,18 @@ use Rattle.connector_core.specs.Asking.{asking}
 use Rattle.connector_core.specs.declared.asking.Ask.{Ask}
 use Rattle.connector_core.specs.declared.asking.Ask.TheVariants.{Nothing, Waits, Send}
 use Rattle.connector_core.specs.declared.changing.ChangeFault.{ChangeFault}
-use Rattle.connector_core.specs.Book.{Book, known_id, doubted, reopened}
+use Rattle.connector_core.specs.Book.{known_id, doubted, reopened}
 use Rattle.connector_core.specs.History.{last_row, rows_of}
-use Rattle.mapping.specs.Readiness.{GoesOn}
-use Rattle.connector_core.specs.Keeps.{Keeps, Revisions, heard, learn_at}
+use Rattle.connector_core.specs.Keeps.{learn_at}
+use Rattle.connector_core.specs.declared.keeps.Keeps.{Keeps}
+use Rattle.connector_core.specs.declared.keeps.Keeps.TheVariants.{Revisions}
 use Rattle.connector_core.specs.Learning.{content_revision, is_wanted, after_learning}
 use Rattle.connector_core.specs.declared.knowledge.Known.{Known}
 use Rattle.world_model.specs.World.{World, Message, Asked, Answered, Event, Changes, Sends, Delivers, Cuts, Restarts_provider, Restarts_connector, Doubts, changes, sends, message_at, happens, empty, judged, run}
 use Rattle.world_model.specs.Providers.{answered, arrives_at, delivers_at, happens_at, run_at}
 use Rattle.world_model.specs.Untroubled.{request_content}
 use Rattle.world_model.specs.Safe.{IsAt, Has}
-use Rattle.world_model.specs.Invariant.{Names, all_names, AllOurs, Follows, KeptAt, AllNotedAt, RepliesTrulyAt, InvariantAt, InvariantOf, Invariant, EventsKeepItAt, EventsKeepIt, AlwaysKept, FactsStay}
+use Rattle.world_model.specs.Invariant.{Names, all_names, AllOurs, Follows, KeptAt, RepliesTrulyAt, InvariantAt, InvariantOf, Invariant, EventsKeepItAt, EventsKeepIt, AlwaysKept, FactsStay}
 use Rattle.world_model.specs.Others.{Act, Ours, Theirs, acts, acts_at, run_among, run_among_at, OfOurs, IsApart, KeepsApart, ActsKeepIt}
 use Rattle.world_model.proofs.Onwards.{run_on}
 use Rattle.world_model.proofs.Judging.{event_follows_at, judged_by_source}
@@ -42,7 +43,7 @@ use Rattle.world_model.proofs.Accepting.{rows_stay, new_by_source}
 use Rattle.world_model.proofs.Comparing.{image_wanted, imaged_if}
 use Rattle.world_model.proofs.Imaging.{image_revision}
 use Rattle.world_model.proofs.Growing.{Grows, image_grows}
-use Rattle.world_model.proofs.Hearing.{answered_truly, by_hearing, same_event}
+use Rattle.world_model.proofs.Hearing.{answered_truly, same_event}
 use Rattle.world_model.proofs.Keeping.{WritesTrulyAt, if_asked_at, if_alone, if_alone_at, step_grows, step_keeps_at}
 use Rattle.world_model.proofs.Lists.{last_has}
 use Rattle.world_model.proofs.Making.{all_made_more, with_row_ids, reopened_ids, doubted_ids, asks_made, sent_made, WritesMade, alone_made, step_made}
@@ -191,18 +192,15 @@ compares_of {keeps} {ours} w inv name known in_book = record { named = its_name;
 reply_inv : {keeps : Keeps} {ours : Names} (w : World) (request : Request) (answer : Answer) → InvariantAt keeps ours w → RepliesTrulyAt keeps w.entries request answer
     → Follows (arrives_at keeps w (Answered request answer)).book w.history → InvariantAt keeps ours (arrives_at keeps w (Answered request answer))
 reply_inv {keeps} w request answer inv stands follows =
-    let said = heard keeps request answer in
     record {
       mine = inv.mine;
       rising = inv.rising;
       follows = follows;
       kept = inv.kept;
-      noted = by_hearing keeps (λ (b : Book). AllNotedAt keeps w.entries b) w.book request answer inv.noted
-          (learning_noted_at keeps w.entries w.book request said inv.kept.whole stands (compares_of w inv) inv.noted);
+      noted = learning_noted_at keeps w.entries w.book request answer inv.kept.whole stands (compares_of w inv) inv.noted;
       told = inv.told;
       made = all_made_more w.history w.history w.entries w.book (after_learning w.book (learn_at keeps w.book request answer)) w.messages (λ name row has. has)
-          (by_hearing keeps (λ (b : Book). GoesOn (known_id w.book) (known_id b)) w.book request answer (λ name id has. has)
-          (learning_keeps_ids_at keeps w.entries w.book request said inv.kept.whole stands (compares_of w inv) inv.noted)) inv.made;
+          (learning_keeps_ids_at keeps w.entries w.book request answer inv.kept.whole stands (compares_of w inv) inv.noted) inv.made;
     }
 
 pub message_there : (messages : List Message) (number : ℕ) (message : Message) → message_at messages number ≡ Some message → (i : ℕ) × IsAt messages i message

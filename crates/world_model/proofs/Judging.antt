@@ -21,12 +21,13 @@ use Rattle.connector_core.specs.declared.asking.Ask.{Ask}
 use Rattle.connector_core.specs.declared.asking.Ask.TheVariants.{Nothing, Waits, Send}
 use Rattle.connector_core.specs.declared.knowledge.Known.{Known}
 use Rattle.connector_core.specs.declared.learning.LearnFault.{LearnFault}
-use Rattle.connector_core.specs.Keeps.{Keeps, heard}
-use Rattle.connector_core.specs.Learning.{Finding, absent, nothing_new, none_sighted, forgetting, is_absent, is_under, Lesson, Learning, learn, after_learning}
+use Rattle.connector_core.specs.Keeps.{learn_at}
+use Rattle.connector_core.specs.declared.keeps.Keeps.{Keeps}
+use Rattle.connector_core.specs.declared.keeps.Keeps.TheVariants.{Revisions}
+use Rattle.connector_core.specs.Learning.{Finding, absent, nothing_new, none_sighted, forgetting, is_absent, is_under, Lesson, Learning, after_learning}
 use Rattle.connector_core.specs.declared.changing.ChangeFault.{ChangeFault}
 use Rattle.connector_core.specs.Changing.{verdict, unknown_member, is_full, history_after, book_after}
-use Rattle.world_model.proofs.Hearing.{by_hearing}
-use Rattle.world_model.proofs.Learned.{LearnsShown, LearnsShown.sees, LearnsShown.agrees, LearnsShown.differs, Learns, Learns.shows, Learns.misses, Learns.is_taken, Learns.is_stale, learnt_by}
+use Rattle.world_model.proofs.Learned.{LearnsShown, LearnsShown.sees, LearnsShown.agrees, LearnsShown.differs, LearnsShown.only, Learns, Learns.shows, Learns.misses, Learns.is_taken, Learns.is_stale, learnt_by}
 use Rattle.world_model.specs.World.{World, Message, Asked, Answered, Event, Changes, Sends, Delivers, Cuts, Restarts_provider, Restarts_connector, Doubts, sends, delivers, message_at, happens, empty, names, judged, run}
 use Rattle.world_model.specs.Safe.{JudgesBySource}
 use Rattle.world_model.specs.Providers.{delivers_at, happens_at, run_at, JudgesBySourceAt}
@@ -93,12 +94,13 @@ pub forgetting_wants : (concerned : Bool) (known : Known) → (forgetting concer
 forgetting_wants true known = refl
 forgetting_wants false known = refl
 
-shown_wants : (book : Book) (name : RecordName) (known : Known) (s : ShownRecord) {l : Lesson} → LearnsShown book name known s l → l.known.wanted ≡ known.wanted
+shown_wants : {keeps : Keeps} (book : Book) (name : RecordName) (known : Known) (s : ShownRecord) {l : Lesson} → LearnsShown keeps book name known s l → l.known.wanted ≡ known.wanted
 shown_wants book name known s (sees sight fits) = refl
 shown_wants book name known s (agrees tag is tagged) = refl
 shown_wants book name known s (differs sight differing) = refl
+shown_wants book name known s (only tag unshown) = refl
 
-pub lesson_wants : (book : Book) (name : RecordName) (known : Known) {said : Finding} {l : Lesson} → Learns book name known said l → l.known.wanted ≡ known.wanted
+pub lesson_wants : {keeps : Keeps} (book : Book) (name : RecordName) (known : Known) {said : Finding} {l : Lesson} → Learns keeps book name known said l → l.known.wanted ≡ known.wanted
 lesson_wants book name known (shows s l learns) = shown_wants book name known s learns
 lesson_wants book name known misses = none_sighted_wants known.id known
 lesson_wants book name known is_taken = forgetting_wants (is_absent known.seen) known
@@ -110,13 +112,13 @@ put_keeps book name known now q here same = put_wants book name now q ∙ elim (
   | inr e ↦ rw e refl
 ]
 
-learn_keeps : (book : Book) (request : Request) (answer : Answer) (q : RecordName) → wanted_row (after_learning book (learn book request answer)) q ≡ wanted_row book q
-learn_keeps book request answer q = go (learn book request answer) refl
+learn_keeps : (keeps : Keeps) (book : Book) (request : Request) (answer : Answer) (q : RecordName) → wanted_row (after_learning book (learn_at keeps book request answer)) q ≡ wanted_row book q
+learn_keeps keeps book request answer q = go (learn_at keeps book request answer) refl
   where
-    go : (r : Result Learning LearnFault) → learn book request answer ≡ r → wanted_row (after_learning book r) q ≡ wanted_row book q
+    go : (r : Result Learning LearnFault) → learn_at keeps book request answer ≡ r → wanted_row (after_learning book r) q ≡ wanted_row book q
     go (Err fault) is = refl
     go (Ok learning) is =
-        let t = learnt_by book request answer learning is in
+        let t = learnt_by keeps book request answer learning is in
         ap (λ (b : Book). wanted_row b q) t.book_after ∙ put_keeps book t.name t.known t.teaches.known q t.in_book (lesson_wants book t.name t.known t.learns)
 
 -- ---- every event
@@ -130,7 +132,7 @@ send_follows w (Some (Send request)) follows = follows
 deliver_follows : (w : World) (o : Option Message) → Follows w.book w.history → Follows (delivers w o).book (delivers w o).history
 deliver_follows w None follows = follows
 deliver_follows w (Some (Asked request)) follows = follows
-deliver_follows w (Some (Answered request answer)) follows = λ q. learn_keeps w.book request answer q ∙ follows q
+deliver_follows w (Some (Answered request answer)) follows = λ q. learn_keeps Revisions w.book request answer q ∙ follows q
 
 pub event_follows : (w : World) (event : Event) → Follows w.book w.history → Follows (happens w event).book (happens w event).history
 event_follows w (Changes row) follows = change_follows w.book w.history row (judged w row) follows
@@ -149,7 +151,7 @@ event_follows_at keeps w (Delivers number) follows = go (message_at w.messages n
     go : (o : Option Message) → Follows (delivers_at keeps w o).book (delivers_at keeps w o).history
     go None = follows
     go (Some (Asked request)) = follows
-    go (Some (Answered request answer)) = by_hearing keeps (λ (b : Book). Follows b w.history) w.book request answer follows (λ q. learn_keeps w.book request (heard keeps request answer) q ∙ follows q)
+    go (Some (Answered request answer)) = λ q. learn_keeps keeps w.book request answer q ∙ follows q
 event_follows_at keeps w (Cuts number length) follows = follows
 event_follows_at keeps w Restarts_provider follows = follows
 event_follows_at keeps w Restarts_connector follows = event_follows w Restarts_connector follows

@@ -20,7 +20,8 @@ use Rattle.provider_core.proofs.StoryLaws.{stories_only_grow}
 use Rattle.provider_core.proofs.TableLaws.{at_push, at_one, at_renew, held_at, steps_write, tables_stay_whole}
 use Rattle.source_csv.specs.Records.{row_revision}
 use Rattle.connector_core.specs.History.{History}
-use Rattle.connector_core.specs.Keeps.{Keeps, Revisions}
+use Rattle.connector_core.specs.declared.keeps.Keeps.{Keeps}
+use Rattle.connector_core.specs.declared.keeps.Keeps.TheVariants.{Revisions}
 use Rattle.connector_core.specs.Learning.{content_revision}
 use Rattle.world_model.specs.Safe.{IsAt, IsImage, StoryRises}
 use Rattle.world_model.specs.Providers.{RisesAt, StoryRisesAt}

@@ -1,8 +1,8 @@
 -- Learning by cases: what was learnt of one record, from a resource that an answer shows or from no resource.
-use Rattle.std.proofs.Common.{◌≡◌, ℕ, ◌==◌, Bool, true, false, cond, not, List, [], ◌∷◌, Option, Some, None, Result, Ok, Err, refl, ap, sym, subst, inl, inr}
+use Rattle.std.proofs.Common.{◌≡◌, ℕ, ◌==◌, Bool, true, false, cond, not, List, [], ◌∷◌, Some, Result, Ok, Err, refl, ap, sym, ◌∙◌, subst, inl, inr}
 use Rattle.std.proofs.lemmas.Bool.{cases_Bool}
 use Rattle.scim_key.specs.Outcome.{◌>>=◌}
-use Rattle.scim_key.specs.Revisions.{RevisionValue, before}
+use Rattle.scim_key.specs.Revisions.{RevisionValue, before, no_revision}
 use Rattle.scim_key.specs.declared.records.RecordName.{RecordName}
 use Rattle.scim_version.specs.declared.conditions.Condition.{Condition}
 use Rattle.scim_resource.specs.Contents.{content_name}
@@ -16,26 +16,16 @@ use Rattle.provider_core.specs.Tables.{shown_in}
 use Rattle.source_csv.specs.Records.{row_revision}
 use Rattle.connector_core.specs.History.{same_name}
 use Rattle.connector_core.specs.Book.{Book, put}
-use Rattle.connector_core.specs.Learning.{or_fault, fault_unless, Finding, Shows, Shows_none, Taken, Stale, Sight, fit, fits_id, listed, sighted, none_sighted, is_wanted, shown_revision, fit_differing, differing, agreeing, compared, shown_lesson, forgetting, is_absent, is_under, Lesson, lesson, finding, subject, content_revision, Learning, noted, learn}
+use Rattle.connector_core.specs.Keeps.{carried, filling, heard, learn_at, lesson_at, only_seen, shown_with, standing_for}
+use Rattle.connector_core.specs.declared.keeps.Keeps.{Keeps}
+use Rattle.connector_core.specs.declared.keeps.Keeps.TheVariants.{Revisions, Versions}
+use Rattle.connector_core.proofs.Standing.{finding_with, passed, said_with, steps_of, through, was_asked, was_seen, was_there}
+use Rattle.world_model.proofs.Hearing.{name_with, revision_with}
+use Rattle.connector_core.specs.Learning.{or_fault, fault_unless, Finding, Shows, Shows_none, Taken, Stale, Sight, fit, fits_id, listed, sighted, none_sighted, is_wanted, shown_revision, fit_differing, differing, agreeing, compared, shown_lesson, forgetting, is_absent, is_under, Lesson, lesson, finding, subject, content_revision, Learning, noted}
 use Rattle.connector_core.specs.declared.knowledge.Known.{Known}
 use Rattle.connector_core.specs.declared.learning.LearnFault.{LearnFault}
 use Rattle.connector_core.specs.declared.learning.LearnFault.TheVariants.{Unfit, Unversioned, NoSuchRecord}
 use Rattle.world_model.specs.Safe.{IsAt}
-
--- ---- one step after the other
-
--- a chain of steps that succeeded went through its first
-through : {A B : Type 0} (r : Result A LearnFault) (f : A → Result B LearnFault) (y : B) → (r >>= f) ≡ Ok y → (x : A) × (r ≡ Ok x) × (f x ≡ Ok y)
-through (Ok x) f y is = (x, refl, is)
-through (Err fault) f y is = absurd (cc)
-
-passed : (fault : LearnFault) (b c : Bool) → fault_unless fault b ≡ Ok c → b ≡ true
-passed fault true c is = refl
-passed fault false c is = absurd (cc)
-
-pub was_there : {A : Type 0} (fault : LearnFault) (o : Option A) (x : A) → or_fault fault o ≡ Ok x → o ≡ Some x
-was_there fault None x is = absurd (cc)
-was_there fault (Some y) x is = cc
 
 -- ---- a resource in sight
 
@@ -159,48 +149,96 @@ module _ (book : Book) (name : RecordName) (known : Known) (s : ShownRecord) (si
 
 -- ---- what is learnt about one record
 
--- the record's resource; of a doubted record one that is as it is wanted, or another
-pub data LearnsShown (book : Book) (name : RecordName) (known : Known) (s : ShownRecord) : Lesson → Type 0 where
-  sees : (sight : Sight) → Fits name known s sight → LearnsShown book name known s (sighted known sight)
-  agrees : (tag : List ℕ) → is_wanted book known s.content ≡ true → s.version ≡ Some tag → LearnsShown book name known s (agreeing known s.id tag)
-  differs : (sight : Sight) → Differs book name known s sight → LearnsShown book name known s (differing known sight)
+-- what was tested of a resource that is only seen, where no revision is shown
+pub record Unshown (keeps : Keeps) (name : RecordName) (s : ShownRecord) (tag : List ℕ) : Type 0 where
+  pub kind : keeps ≡ Versions
+  pub named : same_name name (content_name s.content) ≡ true
+  pub revision : content_revision s.content ≡ Some no_revision
+  pub tagged : s.version ≡ Some tag
+
+-- the record's resource; of a doubted record one that is as it is wanted, or another; or one that is only seen
+pub data LearnsShown (keeps : Keeps) (book : Book) (name : RecordName) (known : Known) (s : ShownRecord) : Lesson → Type 0 where
+  sees : (sight : Sight) → Fits name known s sight → LearnsShown keeps book name known s (sighted known sight)
+  agrees : (tag : List ℕ) → is_wanted book known s.content ≡ true → s.version ≡ Some tag → LearnsShown keeps book name known s (agreeing known s.id tag)
+  differs : (sight : Sight) → Differs book name known s sight → LearnsShown keeps book name known s (differing known sight)
+  only : (tag : List ℕ) → Unshown keeps name s tag → LearnsShown keeps book name known s (differing known (record { id = s.id; revision = no_revision; tag = tag }))
+
+-- where revisions are shown, nothing is only seen
+pub never_only : {A : Type 0} {name : RecordName} {s : ShownRecord} {tag : List ℕ} → Unshown Revisions name s tag → A
+never_only o = let wrong : Revisions ≡ Versions = o.kind in absurd (cc)
 
 -- a resource in sight, nothing new, nothing there, or something forgotten
-pub data Learns (book : Book) (name : RecordName) (known : Known) : Finding → Lesson → Type 0 where
-  shows : (s : ShownRecord) (l : Lesson) → LearnsShown book name known s l → Learns book name known (Shows s) l
-  misses : Learns book name known Shows_none (none_sighted known.id known)
-  is_taken : Learns book name known Taken (forgetting (is_absent known.seen) known)
-  is_stale : (if_match : Condition) → Learns book name known (Stale if_match) (forgetting (is_under if_match known.seen) known)
+pub data Learns (keeps : Keeps) (book : Book) (name : RecordName) (known : Known) : Finding → Lesson → Type 0 where
+  shows : (s : ShownRecord) (l : Lesson) → LearnsShown keeps book name known s l → Learns keeps book name known (Shows s) l
+  misses : Learns keeps book name known Shows_none (none_sighted known.id known)
+  is_taken : Learns keeps book name known Taken (forgetting (is_absent known.seen) known)
+  is_stale : (if_match : Condition) → Learns keeps book name known (Stale if_match) (forgetting (is_under if_match known.seen) known)
 
-module _ (book : Book) (name : RecordName) (known : Known) (s : ShownRecord) (l : Lesson) where
-  compared_of : (wanted : Bool) → known.is_doubted ≡ true → is_wanted book known s.content ≡ wanted → compared wanted name known s ≡ Ok l → LearnsShown book name known s l
+module _ (keeps : Keeps) (book : Book) (name : RecordName) (known : Known) (s : ShownRecord) (l : Lesson) where
+  compared_of : (wanted : Bool) → known.is_doubted ≡ true → is_wanted book known s.content ≡ wanted → compared wanted name known s ≡ Ok l → LearnsShown keeps book name known s l
   compared_of true doubted test is =
       let (tag, has, made) = through (or_fault Unversioned s.version) (λ x. Ok (agreeing known s.id x)) l is in
       let same : agreeing known s.id tag ≡ l = cc in
-      subst (LearnsShown book name known s) same (agrees tag test (was_there Unversioned s.version tag has))
+      subst (LearnsShown keeps book name known s) same (agrees tag test (was_there Unversioned s.version tag has))
   compared_of false doubted test is =
       let (sight, fits, made) = through (fit_differing name known s) (λ x. Ok (differing known x)) l is in
       let same : differing known sight ≡ l = cc in
-      subst (LearnsShown book name known s) same (differs sight (differing_tested book name known s sight doubted test fits))
+      subst (LearnsShown keeps book name known s) same (differs sight (differing_tested book name known s sight doubted test fits))
 
   shown_of : (doubted : Bool) → known.is_doubted ≡ doubted
-      → cond doubted (compared (is_wanted book known s.content) name known s) (fit name known s >>= λ sight. Ok (sighted known sight)) ≡ Ok l → LearnsShown book name known s l
+      → cond doubted (compared (is_wanted book known s.content) name known s) (fit name known s >>= λ sight. Ok (sighted known sight)) ≡ Ok l → LearnsShown keeps book name known s l
   shown_of true doubted is = compared_of (is_wanted book known s.content) doubted refl is
   shown_of false doubted is =
       let (sight, fits, made) = through (fit name known s) (λ x. Ok (sighted known x)) l is in
       let same : sighted known sight ≡ l = cc in
-      subst (LearnsShown book name known s) same (sees sight (fit_tested name known s sight fits))
+      subst (LearnsShown keeps book name known s) same (sees sight (fit_tested name known s sight fits))
 
-  pub learns_shown : shown_lesson book name known s ≡ Ok l → LearnsShown book name known s l
+  pub learns_shown : shown_lesson book name known s ≡ Ok l → LearnsShown keeps book name known s l
   learns_shown is = shown_of known.is_doubted refl is
 
-pub learns_of : (book : Book) (name : RecordName) (known : Known) (said : Finding) (l : Lesson) → lesson book name known said ≡ Ok l → Learns book name known said l
-learns_of book name known (Shows s) l is = shows s l (learns_shown book name known s l is)
-learns_of book name known Shows_none l is = let same : none_sighted known.id known ≡ l = cc in subst (Learns book name known Shows_none) same misses
-learns_of book name known Taken l is = let same : forgetting (is_absent known.seen) known ≡ l = cc in subst (Learns book name known Taken) same is_taken
-learns_of book name known (Stale if_match) l is =
-    let same : forgetting (is_under if_match known.seen) known ≡ l = cc in
-    subst (Learns book name known (Stale if_match)) same (is_stale if_match)
+-- what stands in the place of a shown resource
+abbrev pub standing_at : Keeps → Request → ShownRecord → ShownRecord
+standing_at Revisions request s = s
+standing_at Versions request s = filling request s
+
+abbrev pub said_at : Keeps → Request → Finding → Finding
+said_at Revisions request said = said
+said_at Versions request said = said_with (filling request) said
+
+module _ (book : Book) (name : RecordName) (known : Known) where
+  seen_of : (s : ShownRecord) (l : Lesson) → only_seen name known s ≡ Ok l → LearnsShown Versions book name known (shown_with (Some no_revision) s) l
+  seen_of s l is =
+      let (seen, made) = was_seen name known s l is in
+      let as_none : ShownRecord = shown_with (Some no_revision) s in
+      subst (LearnsShown Versions book name known as_none) (sym made)
+      (only seen.tag (record { kind = refl; named = ap (same_name name) (name_with (Some no_revision) s.content) ∙ seen.named; revision = revision_with (Some no_revision) s.content; tagged = seen.tagged }))
+
+  pub learns_at : (keeps : Keeps) (request : Request) (s : ShownRecord) (l : Lesson) → lesson_at keeps book name known (carried request) (Shows s) ≡ Ok l
+      → LearnsShown keeps book name known (standing_at keeps request s) l
+  learns_at Revisions request s l is = learns_shown Revisions book name known s l is
+  learns_at Versions (Create c) s l is = learns_shown Versions book name known (standing_for c s) l (was_asked book name known l c s is).1
+  learns_at Versions (Retrieve kind id m n) s l is = seen_of s l is
+  learns_at Versions (Search kind wanted start count) s l is = seen_of s l is
+  learns_at Versions (Replace id c m n) s l is = learns_shown Versions book name known (standing_for c s) l (was_asked book name known l c s is).1
+
+  misses_of : (keeps : Keeps) (l : Lesson) → none_sighted known.id known ≡ l → Learns keeps book name known Shows_none l
+  misses_of keeps l same = subst (Learns keeps book name known Shows_none) same misses
+
+  taken_of : (keeps : Keeps) (l : Lesson) → forgetting (is_absent known.seen) known ≡ l → Learns keeps book name known Taken l
+  taken_of keeps l same = subst (Learns keeps book name known Taken) same is_taken
+
+  stale_of : (keeps : Keeps) (if_match : Condition) (l : Lesson) → forgetting (is_under if_match known.seen) known ≡ l → Learns keeps book name known (Stale if_match) l
+  stale_of keeps if_match l same = subst (Learns keeps book name known (Stale if_match)) same (is_stale if_match)
+
+  learns_of : (keeps : Keeps) (request : Request) (said : Finding) (l : Lesson) → lesson_at keeps book name known (carried request) said ≡ Ok l → Learns keeps book name known (said_at keeps request said) l
+  learns_of Revisions request (Shows s) l is = shows s l (learns_at Revisions request s l is)
+  learns_of Revisions request Shows_none l is = misses_of Revisions l (cc)
+  learns_of Revisions request Taken l is = taken_of Revisions l (cc)
+  learns_of Revisions request (Stale if_match) l is = stale_of Revisions if_match l (cc)
+  learns_of Versions request (Shows s) l is = shows (filling request s) l (learns_at Versions request s l is)
+  learns_of Versions request Shows_none l is = misses_of Versions l (cc)
+  learns_of Versions request Taken l is = taken_of Versions l (cc)
+  learns_of Versions request (Stale if_match) l is = stale_of Versions if_match l (cc)
 
 abbrev pub taught : Book → RecordName → Known → Finding → Result Learning LearnFault
 taught book name known said = lesson book name known said >>= λ l. Ok (noted book name l)
@@ -211,36 +249,43 @@ told book request answer name known = finding request answer >>= taught book nam
 abbrev pub told_of : Book → Request → Answer → RecordName → Result Learning LearnFault
 told_of book request answer name = or_fault NoSuchRecord (book name) >>= told book request answer name
 
-book_of : (a b : Learning) → a ≡ b → b.book ≡ a.book
-book_of a b same = ap (λ x. x.book) (sym same)
+-- what an answer stands for says this
+says_at : (keeps : Keeps) (request : Request) (answer : Answer) (said : Finding) → finding request answer ≡ Ok said → finding request (heard keeps request answer) ≡ Ok (said_at keeps request said)
+says_at Revisions request answer said is = is
+says_at Versions request answer said is = finding_with (filling request) request answer said is
 
 -- an answer from which something is learnt: of one record, by a lesson
-pub record Teaches (book : Book) (request : Request) (answer : Answer) (learning : Learning) : Type 0 where
+pub record Teaches (keeps : Keeps) (book : Book) (request : Request) (answer : Answer) (learning : Learning) : Type 0 where
   pub name : RecordName
   pub known : Known
   pub said : Finding
   pub teaches : Lesson
   pub about : subject request ≡ Some name
   pub in_book : book name ≡ Some known
-  pub says : finding request answer ≡ Ok said
-  pub learns : Learns book name known said teaches
+  pub says : finding request (heard keeps request answer) ≡ Ok said
+  pub learns : Learns keeps book name known said teaches
   pub book_after : learning.book ≡ put book name teaches.known
+  -- what the answer itself says
+  pub found : Finding
+  pub finds : finding request answer ≡ Ok found
+  pub stands : said ≡ said_at keeps request found
+  pub taught_by : lesson_at keeps book name known (carried request) found ≡ Ok teaches
 
-pub learnt_by : (book : Book) (request : Request) (answer : Answer) (learning : Learning) → learn book request answer ≡ Ok learning → Teaches book request answer learning
-learnt_by book request answer learning is =
-    let (name, about, after_name) = through (or_fault Unfit (subject request)) (told_of book request answer) learning is in
-    let (known, in_book, after_known) = through (or_fault NoSuchRecord (book name)) (told book request answer name) learning after_name in
-    let (said, says, after_said) = through (finding request answer) (taught book name known) learning after_known in
-    let (l, teaches, made) = through (lesson book name known said) (λ l. Ok (noted book name l)) learning after_said in
-    let same : noted book name l ≡ learning = cc in
+pub learnt_by : (keeps : Keeps) (book : Book) (request : Request) (answer : Answer) (learning : Learning) → learn_at keeps book request answer ≡ Ok learning → Teaches keeps book request answer learning
+learnt_by keeps book request answer learning is =
+    let t = steps_of keeps book request answer learning is in
     record {
-      name = name;
-      known = known;
-      said = said;
-      teaches = l;
-      about = was_there Unfit (subject request) name about;
-      in_book = was_there NoSuchRecord (book name) known in_book;
-      says = says;
-      learns = learns_of book name known said l teaches;
-      book_after = book_of (noted book name l) learning same;
+      name = t.name;
+      known = t.known;
+      said = said_at keeps request t.said;
+      teaches = t.lesson;
+      about = t.about;
+      in_book = t.in_book;
+      says = says_at keeps request answer t.said t.says;
+      learns = learns_of book t.name t.known keeps request t.said t.lesson t.teaches;
+      book_after = ap (λ (x : Learning). x.book) (sym t.made);
+      found = t.said;
+      finds = t.says;
+      stands = refl;
+      taught_by = t.teaches;
     }

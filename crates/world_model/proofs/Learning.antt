@@ -9,17 +9,21 @@ use Rattle.scim_key.specs.Outcome.{◌>>=◌}
 use Rattle.scim_key.specs.Revisions.{RevisionValue, before, no_revision, ◌≼◌}
 use Rattle.scim_key.specs.declared.records.RecordName.{RecordName}
 use Rattle.scim_version.specs.Tags.{version_tag}
-use Rattle.scim_resource.specs.Contents.{content_name}
+use Rattle.scim_resource.specs.Contents.{content_name, content_with}
 use Rattle.scim_resource.specs.Rows.{ShownRecord}
 use Rattle.scim_message.specs.declared.messages.Answer.{Answer}
 use Rattle.scim_message.specs.declared.messages.Request.{Request}
+use Rattle.scim_message.specs.declared.messages.Request.TheVariants.{Create, Retrieve, Search, Replace}
+use Rattle.scim_resource.specs.declared.contents.Content.{Content}
 use Rattle.provider_core.specs.Tables.{IsFact}
 use Rattle.provider_core.proofs.TableLaws.{same_if_eq}
 use Rattle.source_csv.specs.Records.{row_revision}
 use Rattle.source_csv.specs.declared.rows.Row.{Row}
 use Rattle.connector_core.specs.History.{Rises, rows_of, same_name}
-use Rattle.connector_core.specs.Keeps.{Keeps, Revisions, Versions}
-use Rattle.connector_core.specs.Learning.{or_fault, fault_unless, Finding, Shows, Shows_none, Taken, Stale, fit, fits_id, sighted, is_wanted, or_no_revision, shown_revision, fit_differing, differing, agreeing, compared, shown_lesson, lesson, finding, subject, content_revision, noted, learn}
+use Rattle.connector_core.specs.Keeps.{asked_lesson, carried, lesson_at, only_seen, says, shown_with, standing_for}
+use Rattle.connector_core.specs.declared.keeps.Keeps.{Keeps}
+use Rattle.connector_core.specs.declared.keeps.Keeps.TheVariants.{Revisions, Versions}
+use Rattle.connector_core.specs.Learning.{or_fault, fault_unless, Finding, Shows, Shows_none, Taken, Stale, fit, fits_id, sighted, is_wanted, or_no_revision, shown_revision, fit_differing, differing, agreeing, compared, shown_lesson, Lesson, lesson, finding, subject, content_revision, noted, learn}
 use Rattle.connector_core.specs.declared.knowledge.Known.{Known}
 use Rattle.connector_core.specs.declared.learning.LearnFault.{LearnFault}
 use Rattle.connector_core.specs.declared.learning.LearnFault.TheVariants.{Unfit, Unversioned, NoSuchRecord}
@@ -27,7 +31,7 @@ use Rattle.world_model.specs.World.{World}
 use Rattle.world_model.specs.Safe.{IsAt, id_in}
 use Rattle.world_model.proofs.Lists.{has_last}
 use Rattle.provider_core.specs.Stories.{Entry}
-use Rattle.world_model.proofs.Hearing.{name_with, revision_with}
+use Rattle.world_model.proofs.Hearing.{answered_said, hearing, name_with, revision_with, says_itself}
 use Rattle.world_model.proofs.Growing.{id_at}
 use Rattle.world_model.proofs.Invariant.{compares_of}
 use Rattle.world_model.proofs.Learned.{differing_within, differing_named, at_tag, at_within, at_revision, at_id, at_name, taught, told, told_of, shows_first}
@@ -152,11 +156,36 @@ module _ {keeps : Keeps} {ours : Names} (w : World) (inv : InvariantAt keeps our
     learnt_ok false = ok_whatever (fit name known s) (λ sight. Ok (sighted known sight)) usable_fits (λ sight. refl)
 
   -- the connector learns from a resource of the record that stands for a version
-  pub shown_ok : (s : ShownRecord) → StandsAt keeps w.entries s → content_name s.content ≡ name → IsOk (shown_lesson w.book name known s)
-  shown_ok s stands named = learnt_ok s (usable keeps s stands named) named known.is_doubted
+  shown_ok : (kind : Keeps) (s : ShownRecord) → StandsAt kind w.entries s → content_name s.content ≡ name → IsOk (shown_lesson w.book name known s)
+  shown_ok kind s stands named = learnt_ok s (usable kind s stands named) named known.is_doubted
+
+  -- so it does from one that shows what was asked, and from one that is only seen
+  asked_ok : (c : Content) (s : ShownRecord) → StandsFor w.entries (standing_for c s) → content_name c ≡ name → says name c s ≡ true → IsOk (asked_lesson w.book name known c s)
+  asked_ok c s stands named test =
+      ok_after (fault_unless Unfit (says name c s)) (λ _. shown_lesson w.book name known (standing_for c s)) true (passes Unfit (says name c s) test)
+      (shown_ok Versions (standing_for c s) stands named)
+
+  only_ok : (s : ShownRecord) → StandsFor w.entries (shown_with (Some no_revision) s) → content_name s.content ≡ name → IsOk (only_seen name known s)
+  only_ok s stands named =
+      let u = usable Versions (shown_with (Some no_revision) s) stands (name_with (Some no_revision) s.content ∙ named) in
+      let last : List ℕ → Result Lesson LearnFault = λ tag. Ok (differing known (record { id = s.id; revision = no_revision; tag = tag })) in
+      ok_after (fault_unless Unfit (same_name name (content_name s.content))) (λ _. or_fault Unversioned s.version >>= last) true
+      (passes Unfit (same_name name (content_name s.content)) (same_if_eq name (content_name s.content) (sym named)))
+      (ok_after (or_fault Unversioned s.version) last u.tag (is_there Unversioned s.version u.tag u.tagged) refl)
+
+  -- and so from what a provider answers
+  pub answered_ok : (kind : Keeps) (request : Request) (s : ShownRecord) → StandsAt kind w.entries (hearing kind request s) → content_name (hearing kind request s).content ≡ name
+      → ((c : Content) → carried request ≡ Some c → c ≡ s.content) → IsOk (lesson_at kind w.book name known (carried request) (answered_said kind (Shows s)))
+  answered_ok Revisions request s stands named written = shown_ok Revisions s stands named
+  answered_ok Versions (Create c) s stands named written = asked_ok c (shown_with None s) stands named (says_itself name c s named (written c refl))
+  answered_ok Versions (Retrieve kind id m n) s stands named written =
+      only_ok (shown_with None s) stands (sym (name_with (Some no_revision) (content_with None s.content)) ∙ named)
+  answered_ok Versions (Search kind wanted start count) s stands named written =
+      only_ok (shown_with None s) stands (sym (name_with (Some no_revision) (content_with None s.content)) ∙ named)
+  answered_ok Versions (Replace id c m n) s stands named written = asked_ok c (shown_with None s) stands named (says_itself name c s named (written c refl))
 
   lesson_ok : (said : Finding) → ((s : ShownRecord) → said ≡ Shows s → StandsAt keeps w.entries s × (content_name s.content ≡ name)) → IsOk (lesson w.book name known said)
-  lesson_ok (Shows s) shown = let facts = shown s refl in shown_ok s facts.0 facts.1
+  lesson_ok (Shows s) shown = let facts = shown s refl in shown_ok keeps s facts.0 facts.1
   lesson_ok Shows_none shown = refl
   lesson_ok Taken shown = refl
   lesson_ok (Stale if_match) shown = refl

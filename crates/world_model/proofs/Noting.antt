@@ -16,21 +16,23 @@ use Rattle.source_csv.specs.Records.{row_name, row_revision}
 use Rattle.source_csv.specs.declared.rows.Row.{Row}
 use Rattle.connector_core.specs.History.{same_name}
 use Rattle.connector_core.specs.Book.{Book, known_id, put, wanting, wanting_now, with_row, seeing, forgotten, undoubted, doubting, doubted, reopened}
-use Rattle.connector_core.specs.Keeps.{Keeps, Revisions, Versions}
-use Rattle.connector_core.specs.Learning.{Finding, Shows, Sight, sighted, seen_at, content_revision, is_wanted, or_no_revision, shown_revision, differing, absent, nothing_new, none_sighted, forgetting, is_absent, is_under, Lesson, Learning, learn, after_learning}
+use Rattle.connector_core.specs.Keeps.{heard, learn_at}
+use Rattle.connector_core.specs.declared.keeps.Keeps.{Keeps}
+use Rattle.connector_core.specs.declared.keeps.Keeps.TheVariants.{Revisions, Versions}
+use Rattle.connector_core.specs.Learning.{Finding, Shows, Sight, sighted, seen_at, content_revision, is_wanted, or_no_revision, shown_revision, differing, absent, nothing_new, none_sighted, forgetting, is_absent, is_under, Lesson, Learning, after_learning}
 use Rattle.connector_core.specs.declared.knowledge.Known.{Known}
 use Rattle.connector_core.specs.declared.knowledge.Seen.{Seen}
 use Rattle.connector_core.specs.declared.knowledge.Seen.TheVariants.{Unknown, Absent, At}
 use Rattle.connector_core.specs.declared.learning.LearnFault.{LearnFault}
 use Rattle.world_model.specs.Safe.{IsAt, id_in, IsVersion}
-use Rattle.world_model.specs.Invariant.{HasVersion, InSightAt, Noted, NotedAt, AllNoted, AllNotedAt, ShowsTruly, StandsAt, StandsFor}
+use Rattle.world_model.specs.Invariant.{HasVersion, InSightAt, Noted, NotedAt, AllNotedAt, StandsAt, StandsFor}
 use Rattle.world_model.proofs.Order.{later_within}
 use Rattle.world_model.proofs.Growing.{id_at, ids_grow, version_grows}
 use Rattle.mapping.specs.Readiness.{GoesOn}
 use Rattle.world_model.proofs.Comparing.{wanted_named, wanted_revised}
 use Rattle.world_model.proofs.Hearing.{name_with, revision_with}
 use Rattle.world_model.proofs.Making.{put_ids}
-use Rattle.world_model.proofs.Learned.{LearnsShown, LearnsShown.sees, LearnsShown.agrees, LearnsShown.differs, Learns, Learns.shows, Learns.misses, Learns.is_taken, Learns.is_stale, Teaches, learnt_by, shows_first}
+use Rattle.world_model.proofs.Learned.{LearnsShown, LearnsShown.sees, LearnsShown.agrees, LearnsShown.differs, LearnsShown.only, Learns, Learns.shows, Learns.misses, Learns.is_taken, Learns.is_stale, Teaches, learnt_by, never_only, shows_first}
 
 -- ---- if the table goes on
 
@@ -241,7 +243,7 @@ module _ (es : List Entry) (book : Book) (name : RecordName) (known : Known) (wh
         (λ some. record { id = sight.id; known = refl; tag = sight.tag; version = v })
         (record { version = v; counted = λ sure. later_above_second known.confirmed sight.revision; lower = λ doubted. absurd (cc) })
 
-    fact_noted : (s : ShownRecord) {l : Lesson} → IsFact es s → LearnsShown book name known s l → Noted es name l.known
+    fact_noted : (s : ShownRecord) {l : Lesson} → IsFact es s → LearnsShown Revisions book name known s l → Noted es name l.known
     fact_noted s fact (sees sight fits) =
         sighted_as sight (fact_version es name s sight whole fact ((same_names name (content_name s.content)).0 fits.named) fits.revision fits.tag fits.id) (not-true _ fits.within)
     fact_noted s fact (agrees tag wanted tagged) =
@@ -258,6 +260,7 @@ module _ (es : List Entry) (book : Book) (name : RecordName) (known : Known) (wh
           counted = λ sure. let wrong : true ≡ false = sym d.doubted ∙ sure in absurd (cc);
           lower = λ still. subst (λ (x : RevisionValue). x ≺ row_revision known.wanted) its below;
         })
+    fact_noted s fact (only tag o) = never_only o
 
   -- ---- where none is shown
   stood_by : (s t : ShownRecord) (id tag : List ℕ) → IsFact es t → name ≡ content_name t.content → t.version ≡ Some tag → id ≡ t.id
@@ -299,7 +302,13 @@ module _ (es : List Entry) (book : Book) (name : RecordName) (known : Known) (wh
         (stood_now s sight.id sight.tag st sight.revision has)
         (record { held = st.held; version = st.version; from = stood_from s sight.id sight.tag st sight.revision has; up = st.up })
 
-    stands_noted : (s : ShownRecord) {l : Lesson} → StandsFor es s → LearnsShown book name known s l → NotedAt Versions es name l.known
+    from_stood : (s : ShownRecord) {id tag : List ℕ} (st : Stood es name known s id tag) → shown_revision s.content ≼ st.held
+    from_stood s {id} {tag} st = elim st.shown [
+      | inl shown ↦ subst (λ (r : RevisionValue). r ≼ st.held) (sym (ap or_no_revision shown)) (reflexive_up_to st.held)
+      | inr none ↦ subst (λ (r : RevisionValue). r ≼ st.held) (sym (ap or_no_revision none)) (none_first st.held)
+    ]
+
+    stands_noted : (s : ShownRecord) {l : Lesson} → StandsFor es s → LearnsShown Versions book name known s l → NotedAt Versions es name l.known
     stands_noted s stands (sees sight fits) =
         sighted_from s sight (stood s sight.id sight.tag stands ((same_names name (content_name s.content)).0 fits.named) fits.tag fits.id) fits.revision (not-true _ fits.within)
     stands_noted s stands (agrees tag wanted tagged) =
@@ -309,20 +318,19 @@ module _ (es : List Entry) (book : Book) (name : RecordName) (known : Known) (wh
     stands_noted s stands (differs sight d) =
         let st = stood s sight.id sight.tag stands ((same_names name (content_name s.content)).0 d.named) d.tag d.id in
         differing_noted Versions es name known sight n (version_id es name sight.id sight.tag st.held whole st.version)
-        (record { held = st.held; version = st.version; from = subst (λ (r : RevisionValue). r ≼ st.held) (sym d.revision) (from s st); up = st.up })
-      where
-        from : (s : ShownRecord) {id tag : List ℕ} (st : Stood es name known s id tag) → shown_revision s.content ≼ st.held
-        from s {id} {tag} st = elim st.shown [
-          | inl shown ↦ subst (λ (r : RevisionValue). r ≼ st.held) (sym (ap or_no_revision shown)) (reflexive_up_to st.held)
-          | inr none ↦ subst (λ (r : RevisionValue). r ≼ st.held) (sym (ap or_no_revision none)) (none_first st.held)
-        ]
+        (record { held = st.held; version = st.version; from = subst (λ (r : RevisionValue). r ≼ st.held) (sym d.revision) (from_stood s st); up = st.up })
+    stands_noted s stands (only tag o) =
+        let sight : Sight = record { id = s.id; revision = no_revision; tag = tag } in
+        let st = stood s s.id tag stands ((same_names name (content_name s.content)).0 o.named) o.tagged refl in
+        differing_noted Versions es name known sight n (version_id es name sight.id sight.tag st.held whole st.version)
+        (record { held = st.held; version = st.version; from = none_first st.held; up = st.up })
 
   -- ---- either way
-  shown_noted : (keeps : Keeps) (s : ShownRecord) {l : Lesson} → NotedAt keeps es name known → StandsAt keeps es s → LearnsShown book name known s l → NotedAt keeps es name l.known
+  shown_noted : (keeps : Keeps) (s : ShownRecord) {l : Lesson} → NotedAt keeps es name known → StandsAt keeps es s → LearnsShown keeps book name known s l → NotedAt keeps es name l.known
   shown_noted Revisions s n fact learns = fact_noted n s fact learns
   shown_noted Versions s n stands learns = stands_noted n s stands learns
 
-  lesson_noted : (keeps : Keeps) {said : Finding} {l : Lesson} → NotedAt keeps es name known → ((s : ShownRecord) → said ≡ Shows s → StandsAt keeps es s) → Learns book name known said l
+  lesson_noted : (keeps : Keeps) {said : Finding} {l : Lesson} → NotedAt keeps es name known → ((s : ShownRecord) → said ≡ Shows s → StandsAt keeps es s) → Learns keeps book name known said l
       → NotedAt keeps es name l.known
   lesson_noted keeps n shown (shows s l learns) = shown_noted keeps s n (shown s refl) learns
   lesson_noted keeps n shown misses = none_sighted_noted es name known.id known n
@@ -343,12 +351,13 @@ forgetting_id false known = refl
 
 -- a known id stays
 module _ {keeps : Keeps} (es : List Entry) (book : Book) (name : RecordName) (known : Known) (n : NotedAt keeps es name known) (id : List ℕ) (has : known.id ≡ Some id) where
-  shown_keeps_id : (s : ShownRecord) {l : Lesson} → NotedAt keeps es name l.known → LearnsShown book name known s l → l.known.id ≡ Some id
+  shown_keeps_id : (s : ShownRecord) {l : Lesson} → NotedAt keeps es name l.known → LearnsShown keeps book name known s l → l.known.id ≡ Some id
   shown_keeps_id s now (sees sight fits) = sym (now.id sight.id refl) ∙ n.id id has
   shown_keeps_id s now (agrees tag wanted tagged) = sym (now.id s.id refl) ∙ n.id id has
   shown_keeps_id s now (differs sight d) = has
+  shown_keeps_id s now (only tag o) = has
 
-  lesson_keeps_id : {said : Finding} {l : Lesson} → NotedAt keeps es name l.known → Learns book name known said l → l.known.id ≡ Some id
+  lesson_keeps_id : {said : Finding} {l : Lesson} → NotedAt keeps es name l.known → Learns keeps book name known said l → l.known.id ≡ Some id
   lesson_keeps_id now (shows s l learns) = shown_keeps_id s now learns
   lesson_keeps_id now misses = none_sighted_id known.id known ∙ has
   lesson_keeps_id now is_taken = forgetting_id (is_absent known.seen) known ∙ has
@@ -361,38 +370,28 @@ AllStand keeps es answer = (i : ℕ) (s : ShownRecord) → IsAt (shown_in answer
 abbrev pub AllCompare : List Entry → Book → Type 0
 AllCompare es book = (name : RecordName) (known : Known) → book name ≡ Some known → Compares es book name known
 
-module _ (keeps : Keeps) (es : List Entry) (book : Book) (request : Request) (answer : Answer) (whole : IsWholeTable es) (truly : AllStand keeps es answer) (compares : AllCompare es book)
-    (noted : AllNotedAt keeps es book) where
-  teaching_noted : (learning : Learning) (t : Teaches book request answer learning) → NotedAt keeps es t.name t.teaches.known
+module _ (keeps : Keeps) (es : List Entry) (book : Book) (request : Request) (answer : Answer) (whole : IsWholeTable es) (truly : AllStand keeps es (heard keeps request answer))
+    (compares : AllCompare es book) (noted : AllNotedAt keeps es book) where
+  teaching_noted : (learning : Learning) (t : Teaches keeps book request answer learning) → NotedAt keeps es t.name t.teaches.known
   teaching_noted learning t = lesson_noted es book t.name t.known whole (compares t.name t.known t.in_book) keeps (noted t.name t.known t.in_book)
-      (λ s said. truly 0 s (shows_first request answer s (t.says ∙ ap Ok said))) t.learns
+      (λ s said. truly 0 s (shows_first request (heard keeps request answer) s (t.says ∙ ap Ok said))) t.learns
 
-  pub learning_noted_at : AllNotedAt keeps es (after_learning book (learn book request answer))
-  learning_noted_at = go (learn book request answer) refl
+  pub learning_noted_at : AllNotedAt keeps es (after_learning book (learn_at keeps book request answer))
+  learning_noted_at = go (learn_at keeps book request answer) refl
     where
-      go : (r : Result Learning LearnFault) → learn book request answer ≡ r → AllNotedAt keeps es (after_learning book r)
+      go : (r : Result Learning LearnFault) → learn_at keeps book request answer ≡ r → AllNotedAt keeps es (after_learning book r)
       go (Err fault) is = noted
       go (Ok learning) is =
-          let t = learnt_by book request answer learning is in
+          let t = learnt_by keeps book request answer learning is in
           subst (λ (b : Book). AllNotedAt keeps es b) (sym t.book_after) (put_noted es book t.name t.teaches.known noted (teaching_noted learning t))
 
-  pub learning_keeps_ids_at : GoesOn (known_id book) (known_id (after_learning book (learn book request answer)))
-  learning_keeps_ids_at = go (learn book request answer) refl
+  pub learning_keeps_ids_at : GoesOn (known_id book) (known_id (after_learning book (learn_at keeps book request answer)))
+  learning_keeps_ids_at = go (learn_at keeps book request answer) refl
     where
-      go : (r : Result Learning LearnFault) → learn book request answer ≡ r → GoesOn (known_id book) (known_id (after_learning book r))
+      go : (r : Result Learning LearnFault) → learn_at keeps book request answer ≡ r → GoesOn (known_id book) (known_id (after_learning book r))
       go (Err fault) is = λ q id has. has
       go (Ok learning) is =
-          let t = learnt_by book request answer learning is in
+          let t = learnt_by keeps book request answer learning is in
           let n = noted t.name t.known t.in_book in
           subst (λ (b : Book). GoesOn (known_id book) (known_id b)) (sym t.book_after)
           (put_ids book t.name t.known t.teaches.known t.in_book (λ id has. lesson_keeps_id es book t.name t.known n id has (teaching_noted learning t) t.learns))
-
--- ---- where revisions are shown
-
-pub learning_noted : (es : List Entry) (book : Book) (request : Request) (answer : Answer) → IsWholeTable es → ShowsTruly es answer → AllCompare es book → AllNoted es book
-    → AllNoted es (after_learning book (learn book request answer))
-learning_noted = learning_noted_at Revisions
-
-pub learning_keeps_ids : (es : List Entry) (book : Book) (request : Request) (answer : Answer) → IsWholeTable es → ShowsTruly es answer → AllCompare es book → AllNoted es book
-    → GoesOn (known_id book) (known_id (after_learning book (learn book request answer)))
-learning_keeps_ids = learning_keeps_ids_at Revisions

@@ -25,12 +25,13 @@ use Rattle.connector_core.specs.declared.asking.Ask.{Ask}
 use Rattle.connector_core.specs.declared.asking.Ask.TheVariants.{Nothing, Waits, Send}
 use Rattle.connector_core.specs.declared.knowledge.Known.{Known}
 use Rattle.connector_core.specs.declared.learning.LearnFault.{LearnFault}
-use Rattle.connector_core.specs.Keeps.{Keeps, heard}
-use Rattle.connector_core.specs.Learning.{Finding, absent, nothing_new, none_sighted, forgetting, is_absent, is_under, Lesson, Learning, learn, after_learning}
+use Rattle.connector_core.specs.Keeps.{learn_at}
+use Rattle.connector_core.specs.declared.keeps.Keeps.{Keeps}
+use Rattle.connector_core.specs.declared.keeps.Keeps.TheVariants.{Revisions}
+use Rattle.connector_core.specs.Learning.{Finding, absent, nothing_new, none_sighted, forgetting, is_absent, is_under, Lesson, Learning, after_learning}
 use Rattle.connector_core.specs.declared.changing.ChangeFault.{ChangeFault}
 use Rattle.connector_core.specs.Changing.{history_after, book_after}
-use Rattle.world_model.proofs.Hearing.{by_hearing}
-use Rattle.world_model.proofs.Learned.{LearnsShown, LearnsShown.sees, LearnsShown.agrees, LearnsShown.differs, Learns, Learns.shows, Learns.misses, Learns.is_taken, Learns.is_stale, learnt_by}
+use Rattle.world_model.proofs.Learned.{LearnsShown, LearnsShown.sees, LearnsShown.agrees, LearnsShown.differs, LearnsShown.only, Learns, Learns.shows, Learns.misses, Learns.is_taken, Learns.is_stale, learnt_by}
 use Rattle.world_model.specs.World.{World, Message, Asked, Answered, Event, Changes, Sends, Delivers, Cuts, Restarts_provider, Restarts_connector, Doubts, sends, delivers, message_at, happens, empty, judged, run}
 use Rattle.world_model.specs.Safe.{IsPrefixOf, Onward, AlwaysOnward}
 use Rattle.world_model.specs.Providers.{answered, delivers_at, happens_at, run_at, AlwaysOnwardAt}
@@ -92,12 +93,13 @@ forgetting_raises : (concerned : Bool) (known : Known) → Raises known (forgett
 forgetting_raises true known = reflexive_up_to known.confirmed
 forgetting_raises false known = reflexive_up_to known.confirmed
 
-shown_raises : (book : Book) (name : RecordName) (known : Known) (s : ShownRecord) {l : Lesson} → LearnsShown book name known s l → Raises known l
+shown_raises : {keeps : Keeps} (book : Book) (name : RecordName) (known : Known) (s : ShownRecord) {l : Lesson} → LearnsShown keeps book name known s l → Raises known l
 shown_raises book name known s (sees sight fits) = later_above_first known.confirmed sight.revision
 shown_raises book name known s (agrees tag is tagged) = later_above_first known.confirmed (row_revision known.wanted)
 shown_raises book name known s (differs sight differing) = reflexive_up_to known.confirmed
+shown_raises book name known s (only tag unshown) = reflexive_up_to known.confirmed
 
-lesson_raises : (book : Book) (name : RecordName) (known : Known) {said : Finding} {l : Lesson} → Learns book name known said l → Raises known l
+lesson_raises : {keeps : Keeps} (book : Book) (name : RecordName) (known : Known) {said : Finding} {l : Lesson} → Learns keeps book name known said l → Raises known l
 lesson_raises book name known (shows s l learns) = shown_raises book name known s learns
 lesson_raises book name known misses = none_sighted_raises known.id known
 lesson_raises book name known is_taken = forgetting_raises (is_absent known.seen) known
@@ -107,13 +109,13 @@ noted_raises : (book : Book) (name : RecordName) (known : Known) (l : Lesson) �
 noted_raises book name known l here up = put_raises book name l.known (λ k is.
     let same : known ≡ k = cc (sym here ∙ is) in subst (λ x. x.confirmed ≼ l.known.confirmed) same up)
 
-learn_raises : (book : Book) (request : Request) (answer : Answer) → NoneFalls book (after_learning book (learn book request answer))
-learn_raises book request answer = go (learn book request answer) refl
+learn_raises : (keeps : Keeps) (book : Book) (request : Request) (answer : Answer) → NoneFalls book (after_learning book (learn_at keeps book request answer))
+learn_raises keeps book request answer = go (learn_at keeps book request answer) refl
   where
-    go : (r : Result Learning LearnFault) → learn book request answer ≡ r → NoneFalls book (after_learning book r)
+    go : (r : Result Learning LearnFault) → learn_at keeps book request answer ≡ r → NoneFalls book (after_learning book r)
     go (Err fault) is = none_falls book
     go (Ok learning) is =
-        let t = learnt_by book request answer learning is in
+        let t = learnt_by keeps book request answer learning is in
         subst (λ (b : Book). NoneFalls book b) (sym t.book_after) (noted_raises book t.name t.known t.teaches t.in_book (lesson_raises book t.name t.known t.learns))
 
 reopened_raises : (o : Option Known) (known : Known) → o ≡ Some known → StaysConfirmed known (option_map undoubted o)
@@ -168,7 +170,7 @@ delivers_on w (Some (Answered request answer)) = record {
   rows = λ name. stays (rows_of w.history name);
   stories = go_on_staying w.entries;
   messages = stays w.messages;
-  confirmed = learn_raises w.book request answer;
+  confirmed = learn_raises Revisions w.book request answer;
 }
 
 pub event_on : (w : World) (event : Event) → Onward w (happens w event)
@@ -220,7 +222,7 @@ delivers_on_at keeps w (Some (Answered request answer)) = record {
   rows = λ name. stays (rows_of w.history name);
   stories = go_on_staying w.entries;
   messages = stays w.messages;
-  confirmed = by_hearing keeps (λ (b : Book). NoneFalls w.book b) w.book request answer (none_falls w.book) (learn_raises w.book request (heard keeps request answer));
+  confirmed = learn_raises keeps w.book request answer;
 }
 
 pub event_on_at : (keeps : Keeps) (w : World) (event : Event) → Onward w (happens_at keeps w event)

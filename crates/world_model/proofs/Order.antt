@@ -3,7 +3,8 @@ use Rattle.std.proofs.Common.{inl, inr}
 use Rattle.std.proofs.lemmas.Bool.{cases_Bool}
 use Rattle.scim_key.proofs.RevisionLaws.{transitive_up_to, up_to_before, later_is_one}
 use Rattle.scim_key.specs.Revisions.{RevisionValue, before, later, ◌≺◌, ◌≼◌}
-use Rattle.connector_core.specs.Keeps.{Keeps, Revisions, Versions}
+use Rattle.connector_core.specs.declared.keeps.Keeps.{Keeps}
+use Rattle.connector_core.specs.declared.keeps.Keeps.TheVariants.{Revisions, Versions}
 use Rattle.world_model.specs.Providers.{RisesAt}
 
 -- at most, and then before

@@ -4,7 +4,8 @@ use Rattle.std.proofs.lemmas.Slice.Eq.{bytes_eq-Decides}
 use Rattle.std.specs.List.{slice_get}
 use Rattle.std.specs.Option.{option_map}
 use Rattle.scim_key.specs.Identifiers.{id_text}
-use Rattle.scim_key.specs.Revisions.{RevisionValue, later}
+use Rattle.scim_key.proofs.RevisionLaws.{irreflexive, none_before}
+use Rattle.scim_key.specs.Revisions.{RevisionValue, later, no_revision, ◌≺◌}
 use Rattle.scim_key.specs.declared.records.RecordName.{RecordName}
 use Rattle.scim_version.proofs.Versions.{has_version-alone}
 use Rattle.scim_version.specs.Conditions.{holds_match}
@@ -21,7 +22,9 @@ use Rattle.provider_core.proofs.TableLaws.{held_at, named_found}
 use Rattle.source_csv.specs.Records.{IsRow, row_name, row_revision}
 use Rattle.connector_core.specs.History.{rows_of, last_row}
 use Rattle.connector_core.specs.Asking.{asking, is_done, request_for, search_for, replacement}
-use Rattle.connector_core.specs.Keeps.{Keeps, Revisions, Versions}
+use Rattle.connector_core.specs.Keeps.{carried}
+use Rattle.connector_core.specs.declared.keeps.Keeps.{Keeps}
+use Rattle.connector_core.specs.declared.keeps.Keeps.TheVariants.{Revisions, Versions}
 use Rattle.connector_core.specs.Learning.{Shows_none, Taken, Stale, subject, Lesson, Sight, seen_at, sighted, differing, is_wanted, none_sighted, forgetting, is_absent, is_under, content_revision}
 use Rattle.connector_core.specs.declared.asking.Ask.TheVariants.{Send}
 use Rattle.connector_core.specs.declared.knowledge.Known.{Known}
@@ -37,12 +40,12 @@ use Rattle.world_model.proofs.Exchanging.{answer_to}
 use Rattle.world_model.proofs.Finding.{Finds, Finds.finds, Finds.lacks, search_finds, search_keeps, Creates, Creates.creates, Creates.meets, create_answers, Replaces, Replaces.renews, Replaces.misses, replace_answers}
 use Rattle.world_model.proofs.Comparing.{image_wanted}
 use Rattle.world_model.proofs.Hearing.{hearing, hearing_version, hearing_name, hearing_created, hearing_replaced}
-use Rattle.world_model.proofs.Leading.{Leads, leads_to, seen_in}
-use Rattle.world_model.proofs.Learned.{LearnsShown, LearnsShown.sees, LearnsShown.agrees, LearnsShown.differs}
+use Rattle.world_model.proofs.Leading.{Leads, leads_to, seen_in, misses_at, taken_at, stale_at}
+use Rattle.world_model.proofs.Learned.{LearnsShown, LearnsShown.sees, LearnsShown.agrees, LearnsShown.differs, LearnsShown.only}
 use Rattle.world_model.proofs.Lists.{last_has}
 use Rattle.world_model.specs.Invariant.{Names, InSightAt, InvariantAt, NotedAt}
 use Rattle.world_model.proofs.Quiet.{QuietAmong, row_counted, few_entries}
-use Rattle.world_model.proofs.Ranking.{AllLawful, row_lawful, record_ours, versions_few_of}
+use Rattle.world_model.proofs.Ranking.{AllLawful, lawful_revision, row_lawful, record_ours, versions_few_of}
 use Rattle.world_model.proofs.Room.{Lacks, free_place}
 use Rattle.world_model.proofs.Searched.{search_subject}
 use Rattle.world_model.proofs.Sending.{row_of_record}
@@ -146,11 +149,14 @@ module _ {keeps : Keeps} {ours : Names} (w : World) (room : HasRoom w) (q : Soun
         let near : Near w.entries name now = at_current i e sight.id sight.revision at named (is_seen ∙ ap (λ (t : List ℕ). At sight.id t sight.revision) tag) in
         nears unknown (subst (λ (es : List Entry). Near es name now) (sym (search_keeps w.entries known.wanted)) near)
 
-    found_goes : (s : ShownRecord) {l : Lesson} → s.version ≡ Some (version_tag (suc (length e.earlier))) → LearnsShown w.book name known s l
+    found_goes : (s : ShownRecord) {l : Lesson} → s.version ≡ Some (version_tag (suc (length e.earlier))) → LearnsShown keeps w.book name known s l
         → Goes w.entries name known (step w.entries (search_for known.wanted)).entries l.known
     found_goes s tags (sees sight fits) = current (sighted known sight).known sight (sym tags ∙ fits.tag) refl
     found_goes s tags (agrees tag wanted tagged) = ends (sight_ends w q name known in_book (record { id = s.id; revision = row_revision known.wanted; tag = tag }) refl)
     found_goes s tags (differs sight d) = current (differing known sight).known sight (sym tags ∙ d.tag) refl
+    found_goes s tags (only tag o) =
+        let sight : Sight = record { id = s.id; revision = no_revision; tag = tag } in
+        current (differing known sight).known sight (sym tags ∙ o.tagged) refl
 
   found : known.seen ≡ Unknown → asking w.book name ≡ Some (Send (search_for known.wanted))
       → Finds w.entries name (search_for known.wanted) (answer_to w (search_for known.wanted)) → Advance keeps w name known
@@ -164,7 +170,7 @@ module _ {keeps : Keeps} {ours : Names} (w : World) (room : HasRoom w) (q : Soun
   found unknown asks (lacks none says) =
       let request = search_for known.wanted in
       let about : subject request ≡ Some name = search_subject known.wanted law ∙ ap Some (its_name w q name known in_book) in
-      let after = leads_to keeps w name known request Shows_none asks about in_book says (none_sighted known.id known).known refl in
+      let after = leads_to keeps w name known request Shows_none asks about in_book says (none_sighted known.id known) (misses_at keeps w.book name known (carried request)) in
       go known.id refl after
     where
       go : (id : Option (List ℕ)) → known.id ≡ id → Leads keeps w name (search_for known.wanted) (none_sighted id known).known → Advance keeps w name known
@@ -185,13 +191,17 @@ module _ {keeps : Keeps} {ours : Names} (w : World) (room : HasRoom w) (q : Soun
         cc
 
     -- the image of the wanted row in sight ends it
-    image_ends : (s : ShownRecord) {l : Lesson} → HasImage w.book known content → s.content ≡ content → LearnsShown w.book name known s l → IsDone l.known
+    image_ends : (s : ShownRecord) {l : Lesson} → HasImage w.book known content → s.content ≡ content → LearnsShown keeps w.book name known s l → IsDone l.known
     image_ends s has same (sees sight fits) = sight_ends w q name known in_book sight (of_revision s sight same fits.revision)
     image_ends s has same (agrees tag wanted tagged) = sight_ends w q name known in_book (record { id = s.id; revision = row_revision known.wanted; tag = tag }) refl
     image_ends s has same (differs sight d) =
         let test : is_wanted w.book known s.content ≡ true = ap (is_wanted w.book known) same ∙ image_wanted w.book known content has in
         let clash : true ≡ false = sym test ∙ d.other in
         absurd (cc)
+    image_ends s has same (only tag o) =
+        let revisions : Some no_revision ≡ Some (row_revision known.wanted) = sym o.revision ∙ ap content_revision same ∙ revised in
+        let none : no_revision ≡ row_revision known.wanted = cc in
+        absurd (irreflexive no_revision (subst (λ (r : RevisionValue). no_revision ≺ r) (sym none) (none_before (row_revision known.wanted) (lawful_revision known.wanted law))))
 
     made : HasImage w.book known content → known.seen ≡ Absent → asking w.book name ≡ Some (Send (Create content)) → Creates w.entries content (answer_to w (Create content)) → Advance keeps w name known
     made has absent asks (creates s same says) =
@@ -199,11 +209,11 @@ module _ {keeps : Keeps} {ours : Names} (w : World) (room : HasRoom w) (q : Soun
         let seen = seen_in keeps w q.inv name known (Create content) s asks (ap Some named) in_book says (ap content_name is ∙ named) in
         record { now = seen.lesson.known; request = Create content; leads = seen.leads; goes = ends (image_ends (hearing keeps (Create content) s) has is seen.learns) }
     made has absent asks (meets i e at e_named says) =
-        let now = (forgetting (is_absent known.seen) known).known in
+        let l = forgetting (is_absent known.seen) known in
         record {
-          now = now;
+          now = l.known;
           request = Create content;
-          leads = leads_to keeps w name known (Create content) Taken asks (ap Some named) in_book says now refl;
+          leads = leads_to keeps w name known (Create content) Taken asks (ap Some named) in_book says l (taken_at keeps w.book name known (Some content));
           goes = forgets (ap (λ (s : Seen). (forgetting (is_absent s) known).known.seen) absent) (λ unknown. absurd (cc)) not_near;
         }
       where
@@ -237,11 +247,11 @@ module _ {keeps : Keeps} {ours : Names} (w : World) (room : HasRoom w) (q : Soun
           record { now = seen.lesson.known; request = request; leads = seen.leads; goes = ends (image_ends (hearing keeps request s) has is seen.learns) }
       written (misses fails says) =
           let request = replacement id tag content in
-          let now = (forgetting (is_under (Tags (tag ∷ [])) known.seen) known).known in
+          let l = forgetting (is_under (Tags (tag ∷ [])) known.seen) known in
           record {
-            now = now;
+            now = l.known;
             request = request;
-            leads = leads_to keeps w name known request (Stale (Tags (tag ∷ []))) asks (ap Some named) in_book says now refl;
+            leads = leads_to keeps w name known request (Stale (Tags (tag ∷ []))) asks (ap Some named) in_book says l (stale_at keeps w.book name known (Some content) (Tags (tag ∷ [])));
             goes = forgets
                 (ap (λ (s : Seen). (forgetting (is_under (Tags (tag ∷ [])) s) known).known.seen) is_seen
                 ∙ ap (λ (b : Bool). (forgetting b known).known.seen) (alone_under id tag revision))

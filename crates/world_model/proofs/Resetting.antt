@@ -26,6 +26,7 @@ use Rattle.connector_core.specs.declared.accepting.Verdict.TheVariants as verdic
 use Rattle.connector_core.specs.declared.asking.Ask.{Ask}
 use Rattle.connector_core.specs.declared.asking.Ask.TheVariants.{Nothing, Waits, Send}
 use Rattle.connector_core.specs.declared.changing.ChangeFault.{ChangeFault}
+use Rattle.connector_core.specs.declared.keeps.Keeps.TheVariants.{Revisions}
 use Rattle.connector_core.specs.declared.knowledge.Known.{Known}
 use Rattle.connector_core.specs.declared.learning.LearnFault.{LearnFault}
 use Rattle.world_model.specs.Invariant.{Names, Follows, ShowsTruly}
@@ -39,7 +40,7 @@ use Rattle.world_model.proofs.Durable.{IsTrue, Durable, act_durable, its_name}
 use Rattle.world_model.proofs.Faring.{IsStillAt, Fares, FaresOn, fares_further, fares_same, act_fares}
 use Rattle.world_model.proofs.Growing.{id_at}
 use Rattle.world_model.proofs.Invariant.{message_there}
-use Rattle.world_model.proofs.Learned.{LearnsShown, LearnsShown.sees, LearnsShown.agrees, LearnsShown.differs, Learns, Learns.shows, Learns.misses, Learns.is_taken, Learns.is_stale, learnt_by, shows_first}
+use Rattle.world_model.proofs.Learned.{LearnsShown, LearnsShown.sees, LearnsShown.agrees, LearnsShown.differs, LearnsShown.only, Learns, Learns.shows, Learns.misses, Learns.is_taken, Learns.is_stale, learnt_by, never_only, shows_first}
 use Rattle.world_model.proofs.Making.{put_one}
 use Rattle.world_model.proofs.Noting.{forgetting_id, none_sighted_id}
 use Rattle.world_model.proofs.Order.{later_within}
@@ -229,14 +230,15 @@ module _ (ours : Names) (es : List Entry) (whole : IsWholeTable es) (book : Book
           reached = later_within known.confirmed sight.revision (shown_revision b.entry.held) (before_held b named) (subst (λ (r : RevisionValue). r ≼ shown_revision b.entry.held) revised b.up);
         }
 
-    shown_counts : {l : Lesson} → LearnsShown book name known s l → l.known.confirmed ≢ no_revision → HoldsConfirmed es name l.known
+    shown_counts : {l : Lesson} → LearnsShown Revisions book name known s l → l.known.confirmed ≢ no_revision → HoldsConfirmed es name l.known
     shown_counts (sees sight fits) some = sighted_counts sight ((same_names name (content_name s.content)).0 fits.named) fits.id (ap or_no_revision fits.revision)
     shown_counts (agrees tag wanted tagged) some =
         sighted_counts (record { id = s.id; revision = row_revision known.wanted; tag = tag }) (sym (wanted_named book known s.content wanted ∙ of_record)) refl
         (ap or_no_revision (wanted_revised book known s.content wanted))
     shown_counts (differs sight d) some = as_before es name known _ refl refl was some
+    shown_counts (only tag o) some = never_only o
 
-  lesson_counts : {said : Finding} {l : Lesson} → ((s : ShownRecord) → said ≡ Shows s → IsFact es s × (ours (content_name s.content) ≡ true → IsBelow ours es s)) → Learns book name known said l
+  lesson_counts : {said : Finding} {l : Lesson} → ((s : ShownRecord) → said ≡ Shows s → IsFact es s × (ours (content_name s.content) ≡ true → IsBelow ours es s)) → Learns Revisions book name known said l
       → l.known.confirmed ≢ no_revision → HoldsConfirmed es name l.known
   lesson_counts facts (shows s l learns) some = let (fact, below) = facts s refl in shown_counts s fact below learns some
   lesson_counts facts misses some = as_before es name known _ (none_sighted_counts known.id known) (none_sighted_id known.id known) was some
@@ -260,11 +262,11 @@ learnt_counts ours w request answer name mine t truly below counts = go (learn w
     go : (r : Result Learning LearnFault) → learn w.book request answer ≡ r → (k : Known) → after_learning w.book r name ≡ Some k → k.confirmed ≢ no_revision → HoldsConfirmed w.entries name k
     go (Err fault) is = counts
     go (Ok learning) is =
-        let x = learnt_by w.book request answer learning is in
+        let x = learnt_by Revisions w.book request answer learning is in
         subst (λ (b : Book). (k : Known) → b name ≡ Some k → k.confirmed ≢ no_revision → HoldsConfirmed w.entries name k) (sym x.book_after)
         (put_counts w.entries w.book x.name name x.teaches.known counts (λ same some.
         let in_book : w.book name ≡ Some x.known = ap w.book (sym same) ∙ x.in_book in
-        let learns : Learns w.book name x.known x.said x.teaches = subst (λ (n : RecordName). Learns w.book n x.known x.said x.teaches) same x.learns in
+        let learns : Learns Revisions w.book name x.known x.said x.teaches = subst (λ (n : RecordName). Learns Revisions w.book n x.known x.said x.teaches) same x.learns in
         lesson_counts ours w.entries t.whole w.book name mine x.known (its_name w t name x.known in_book) (counts x.known in_book)
         (λ s said. let first = shows_first request answer s (x.says ∙ ap Ok said) in (truly 0 s first, below 0 s first)) learns some))
 

@@ -12,7 +12,8 @@ use Rattle.source_csv.specs.Records.{row_revision}
 use Rattle.source_csv.specs.declared.rows.Row.{Row}
 use Rattle.source_csv.specs.declared.rows.Row.TheVariants.{User, Group}
 use Rattle.connector_core.specs.History.{rows_of}
-use Rattle.connector_core.specs.Keeps.{Keeps, Revisions, Versions}
+use Rattle.connector_core.specs.declared.keeps.Keeps.{Keeps}
+use Rattle.connector_core.specs.declared.keeps.Keeps.TheVariants.{Revisions, Versions}
 use Rattle.connector_core.specs.Learning.{content_revision}
 use Rattle.connector_core.specs.declared.knowledge.Known.{Known}
 use Rattle.connector_core.specs.declared.knowledge.Seen.{Seen}

@@ -22,7 +22,8 @@ use Rattle.connector_core.specs.Book.{Book, known_id}
 use Rattle.connector_core.specs.Asking.{asking, asking_of, asking_with, is_done, request_for, search_for, replacement}
 use Rattle.connector_core.specs.declared.asking.Ask.{Ask}
 use Rattle.connector_core.specs.declared.asking.Ask.TheVariants.{Nothing, Send}
-use Rattle.connector_core.specs.Keeps.{Keeps, Revisions, Versions}
+use Rattle.connector_core.specs.declared.keeps.Keeps.{Keeps}
+use Rattle.connector_core.specs.declared.keeps.Keeps.TheVariants.{Revisions, Versions}
 use Rattle.connector_core.specs.Learning.{content_revision}
 use Rattle.connector_core.specs.declared.knowledge.Known.{Known}
 use Rattle.connector_core.specs.declared.knowledge.Seen.{Seen}

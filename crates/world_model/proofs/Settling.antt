@@ -15,7 +15,8 @@ use Rattle.connector_core.specs.History.{MembersAreUsers, members_of, same_name,
 use Rattle.connector_core.specs.Asking.{is_done}
 use Rattle.connector_core.specs.Book.{Book, known_id, put}
 use Rattle.connector_core.specs.Changing.{names_of}
-use Rattle.connector_core.specs.Keeps.{Keeps, Revisions}
+use Rattle.connector_core.specs.declared.keeps.Keeps.{Keeps}
+use Rattle.connector_core.specs.declared.keeps.Keeps.TheVariants.{Revisions}
 use Rattle.connector_core.specs.declared.knowledge.Known.{Known}
 use Rattle.connector_core.specs.declared.knowledge.Seen.TheVariants.{Unknown}
 use Rattle.world_model.specs.Safe.{IsAt, Has}

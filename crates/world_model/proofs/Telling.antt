@@ -8,7 +8,8 @@ use Rattle.provider_core.specs.Stories.{Entry, AllGoOn}
 use Rattle.provider_core.proofs.TableLaws.{at_push}
 use Rattle.source_csv.specs.Records.{row_name}
 use Rattle.connector_core.specs.History.{History}
-use Rattle.connector_core.specs.Keeps.{Keeps, Revisions, Versions}
+use Rattle.connector_core.specs.declared.keeps.Keeps.{Keeps}
+use Rattle.connector_core.specs.declared.keeps.Keeps.TheVariants.{Revisions, Versions}
 use Rattle.world_model.specs.World.{Message, Asked, Answered}
 use Rattle.world_model.specs.Invariant.{AskedTrulyAt, StandsAt, ToldTruly, ToldTrulyAt, AllTold, AllToldAt}
 use Rattle.world_model.proofs.Growing.{Grows, image_grows, version_grows, fact_grows}

@@ -15,7 +15,7 @@ use Rattle.connector_core.proofs.Rising.{goes_on}
 use Rattle.connector_core.specs.Asking.{asking, is_done}
 use Rattle.connector_core.specs.Book.{Book}
 use Rattle.connector_core.specs.History.{History, MembersAreUsers}
-use Rattle.connector_core.specs.Keeps.{Versions}
+use Rattle.connector_core.specs.declared.keeps.Keeps.TheVariants.{Versions}
 use Rattle.connector_core.specs.declared.accepting.Verdict.{Verdict}
 use Rattle.connector_core.specs.declared.accepting.Verdict.TheVariants as verdicts
 use Rattle.connector_core.specs.declared.asking.Ask.{Ask}

@@ -21,7 +21,9 @@ use Rattle.mapping.specs.Images.{image}
 use Rattle.connector_core.specs.History.{History, rows_of, last_row, AllRise}
 use Rattle.connector_core.specs.Asking.{search_for}
 use Rattle.connector_core.specs.Book.{Book, known_id, wanted_row}
-use Rattle.connector_core.specs.Keeps.{Keeps, Revisions, Versions, shown_with, heard}
+use Rattle.connector_core.specs.Keeps.{shown_with, heard}
+use Rattle.connector_core.specs.declared.keeps.Keeps.{Keeps}
+use Rattle.connector_core.specs.declared.keeps.Keeps.TheVariants.{Revisions, Versions}
 use Rattle.connector_core.specs.Learning.{content_revision}
 use Rattle.connector_core.specs.declared.knowledge.Known.{Known}
 use Rattle.connector_core.specs.declared.knowledge.Seen.TheVariants.{At}

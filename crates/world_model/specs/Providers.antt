@@ -7,11 +7,11 @@ use Rattle.std.specs.List.{AllByRecursion}
 use Rattle.scim_key.specs.Revisions.{RevisionValue, no_revision, ◌≺◌, ◌≼◌}
 use Rattle.scim_key.specs.declared.records.Kind.TheVariants as kinds
 use Rattle.scim_key.specs.declared.records.RecordName.{RecordName}
-use Rattle.scim_resource.specs.Contents.{content_name}
+use Rattle.scim_resource.specs.Contents.{content_name, content_with}
 use Rattle.scim_resource.specs.Rows.{ShownRecord, last_version}
 use Rattle.scim_resource.specs.declared.contents.Content.{Content}
+use Rattle.scim_message.specs.Messages.{request_with}
 use Rattle.scim_message.specs.declared.messages.Request.{Request}
-use Rattle.scim_message.specs.declared.messages.Request.TheVariants.{Create, Retrieve, Search, Replace}
 use Rattle.scim_message.specs.declared.messages.Answer.{Answer}
 use Rattle.provider_core.specs.Stories.{Entry, Step, story, step}
 use Rattle.provider_core.specs.Tables.{shown_in}
@@ -22,7 +22,9 @@ use Rattle.connector_core.specs.Asking.{asking}
 use Rattle.connector_core.specs.Book.{Book, confirmed_of, wanted_row, doubted, reopened}
 use Rattle.connector_core.specs.Changing.{judging_by_source}
 use Rattle.connector_core.specs.History.{rows_of, last_row, Rises}
-use Rattle.connector_core.specs.Keeps.{Keeps, Revisions, Versions, content_with, forgot, learn_at}
+use Rattle.connector_core.specs.Keeps.{forgot, learn_at}
+use Rattle.connector_core.specs.declared.keeps.Keeps.{Keeps}
+use Rattle.connector_core.specs.declared.keeps.Keeps.TheVariants.{Revisions, Versions}
 use Rattle.connector_core.specs.Learning.{content_revision, after_learning}
 use Rattle.connector_core.specs.declared.knowledge.Known.{Known}
 use Rattle.connector_core.specs.declared.knowledge.Seen.{Seen}
@@ -196,17 +198,10 @@ forgot_entry e = record e { earlier = map (content_with None) e.earlier; held = 
 abbrev pub forgot_entries : List Entry → List Entry
 forgot_entries es = map forgot_entry es
 
-abbrev pub forgot_request : Request → Request
-forgot_request (Create content) = Create (content_with None content)
-forgot_request (Retrieve kind id if_match if_none_match) = Retrieve kind id if_match if_none_match
-forgot_request (Search kind wanted start count) = Search kind wanted start count
-forgot_request (Replace id content if_match if_none_match) =
-    Replace id (content_with None content) if_match if_none_match
-
 -- It gives the same answers: what it holds and what it answers are those of a provider that gets revisions, forgotten
 pub record Forgets (es : List Entry) (request : Request) : Type 0 where
-  pub entries : (step (forgot_entries es) (forgot_request request)).entries ≡ forgot_entries (step es request).entries
-  pub answer : (step (forgot_entries es) (forgot_request request)).answer ≡ forgot (step es request).answer
+  pub entries : (step (forgot_entries es) (request_with None request)).entries ≡ forgot_entries (step es request).entries
+  pub answer : (step (forgot_entries es) (request_with None request)).answer ≡ forgot (step es request).answer
 
 abbrev pub AlwaysForgets : Type 0
 AlwaysForgets = (es : List Entry) (request : Request) → Forgets es request
