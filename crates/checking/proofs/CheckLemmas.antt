@@ -11,6 +11,7 @@ use Rattle.provisioning.specs.Openings.{Opening, Opens}
 use Rattle.provisioning.specs.Runs.{IsUntold}
 use Rattle.provisioning.specs.declared.faults.RunFault.{RunFault}
 use Rattle.provisioning.specs.declared.faults.RunFault.TheVariants.{Memory}
+use Rattle.provisioning.specs.Services.{Service}
 use Rattle.checking.specs.Checks.{Begins, Checked, Checks, ChecksEach, ChecksSome, IsBegun, IsChecked, IsSent, IsUnsent, MakesRoom, NotesOf, ReportsAll, ReportsOne, ReportsRest, Sends, Sent, findings_of, names_of, notes_of, openings_of}
 use Rattle.checking.specs.Counting.{counts_after, no_counts, with_finding}
 use Rattle.checking.specs.declared.begun.Begun.{Begun}
@@ -71,18 +72,18 @@ sent_openings : {I O : Type 0} (cs : List (Checked I O)) → flat_map (λ s. s.o
 sent_openings [] = refl
 sent_openings (c ∷ cs) = ap (λ l. c.opened ++ l) (sent_openings cs)
 
-module _ {I O : Type 0} (remaining : I → Option (List ℕ)) (contents : O → Option (List ℕ)) (base : List ℕ)
+module _ {I O : Type 0} (remaining : I → Option (List ℕ)) (contents : O → Option (List ℕ)) (service : Service)
     (book : Book) where
   -- memory ran out before the record was begun
   pub unsent : (opened : Option (List (Opening I O))) (name : RecordName) (fault : RunFault)
       (result : Result (Begun I O) RunFault) → result ≡ Err fault → fault ≡ Memory
-      → Opens opened opened (λ added. Begins contents base book name added result)
+      → Opens opened opened (λ added. Begins contents service book name added result)
   unsent opened name fault result is memory = ([], adds_none opened, rw (is, memory) (inr (refl, refl)))
 
 module _ {N I O : Type 0} (note : NotesOf N) (remaining : I → Option (List ℕ)) (contents : O → Option (List ℕ))
-    (base : List ℕ) (book : Book) where
-  all_sent : (cs : List (Checked I O)) → AllByRecursion (IsChecked remaining contents base book) cs
-      → AllByRecursion (IsSent remaining contents base book) (map sent_of cs)
+    (service : Service) (book : Book) where
+  all_sent : (cs : List (Checked I O)) → AllByRecursion (IsChecked remaining contents service book) cs
+      → AllByRecursion (IsSent remaining contents service book) (map sent_of cs)
   all_sent [] all = tt
   all_sent (c ∷ cs) all = (all.0.begins, all_sent cs all.1)
 
@@ -93,8 +94,8 @@ module _ {N I O : Type 0} (note : NotesOf N) (remaining : I → Option (List ℕ
     pub sent : List (Sent I O)
     pub names_are : names ≡ names_of checked ++ map (λ s. s.name) sent
     pub opened_are : opened ≡ openings_of checked ++ flat_map (λ s. s.opened) sent
-    pub each : AllByRecursion (IsChecked remaining contents base book) checked
-    pub begun : AllByRecursion (IsSent remaining contents base book) sent
+    pub each : AllByRecursion (IsChecked remaining contents service book) checked
+    pub begun : AllByRecursion (IsSent remaining contents service book) sent
     pub reported : Adds before told (notes_of note checked)
     pub counts_are : counts ≡ counts_after no_counts (findings_of checked)
     pub queue_is : queue ≡ map pending_of sent
@@ -116,7 +117,7 @@ module _ {N I O : Type 0} (note : NotesOf N) (remaining : I → Option (List ℕ
   -- one more was begun
   pub sent_more : (names : List RecordName) (name : RecordName) (opened first : List (Opening I O))
       (before told : Option (List N)) (counts : Counts) (queue new : List (Pending I O)) (begun : Begun I O)
-      → UnderWay names opened before told counts queue → IsBegun contents base book name first begun
+      → UnderWay names opened before told counts queue → IsBegun contents service book name first begun
       → new ≡ queue ++ record { name = name; begun = begun } ∷ []
       → UnderWay (names ++ name ∷ []) (opened ++ first) before told counts new
   sent_more names name opened first before told counts queue new begun all begins is =
@@ -143,8 +144,8 @@ module _ {N I O : Type 0} (note : NotesOf N) (remaining : I → Option (List ℕ
       (counts more : Counts) (cs : List (Checked I O)) (s : Sent I O) (ss : List (Sent I O))
       → names ≡ names_of cs ++ s.name ∷ map (λ t. t.name) ss
       → opened ≡ openings_of cs ++ (s.opened ++ flat_map (λ t. t.opened) ss)
-      → AllByRecursion (IsChecked remaining contents base book) cs
-      → AllByRecursion (IsSent remaining contents base book) (s ∷ ss)
+      → AllByRecursion (IsChecked remaining contents service book) cs
+      → AllByRecursion (IsSent remaining contents service book) (s ∷ ss)
       → Adds before told (notes_of note cs) → counts ≡ counts_after no_counts (findings_of cs)
       → ReportsOne note remaining s.name s.begun counts told after more
       → UnderWay names opened before after more (map pending_of ss)
@@ -178,8 +179,8 @@ module _ {N I O : Type 0} (note : NotesOf N) (remaining : I → Option (List ℕ
       (counts more : Counts) (cs : List (Checked I O)) (ss : List (Sent I O)) (p : Pending I O)
       (ps : List (Pending I O))
       → names ≡ names_of cs ++ map (λ t. t.name) ss → opened ≡ openings_of cs ++ flat_map (λ t. t.opened) ss
-      → AllByRecursion (IsChecked remaining contents base book) cs
-      → AllByRecursion (IsSent remaining contents base book) ss
+      → AllByRecursion (IsChecked remaining contents service book) cs
+      → AllByRecursion (IsSent remaining contents service book) ss
       → Adds before told (notes_of note cs) → counts ≡ counts_after no_counts (findings_of cs)
       → p ∷ ps ≡ map pending_of ss → ReportsOne note remaining p.name p.begun counts told after more
       → UnderWay names opened before after more ps
@@ -215,9 +216,9 @@ module _ {N I O : Type 0} (note : NotesOf N) (remaining : I → Option (List ℕ
   none_left : (names : List RecordName) (opened : List (Opening I O)) (before told : Option (List N))
       (counts : Counts) (cs : List (Checked I O)) (ss : List (Sent I O))
       → names ≡ names_of cs ++ map (λ t. t.name) ss → opened ≡ openings_of cs ++ flat_map (λ t. t.opened) ss
-      → AllByRecursion (IsChecked remaining contents base book) cs
+      → AllByRecursion (IsChecked remaining contents service book) cs
       → Adds before told (notes_of note cs) → counts ≡ counts_after no_counts (findings_of cs)
-      → [] ≡ map pending_of ss → ChecksEach note remaining contents base book names opened before told counts
+      → [] ≡ map pending_of ss → ChecksEach note remaining contents service book names opened before told counts
   none_left names opened before told counts cs [] ns os each told_are counts_are is = record {
     checked = cs;
     names_are = ns ∙ append-nil (names_of cs);
@@ -232,7 +233,7 @@ module _ {N I O : Type 0} (note : NotesOf N) (remaining : I → Option (List ℕ
   pub all_reported : (names : List RecordName) (opened : List (Opening I O)) (before told after : Option (List N))
       (counts more : Counts) (queue : List (Pending I O)) → UnderWay names opened before told counts queue
       → ReportsAll note remaining queue counts told after more
-      → ChecksEach note remaining contents base book names opened before after more
+      → ChecksEach note remaining contents service book names opened before after more
   all_reported names opened before told after counts more [] all reports = rw (reports.0, reports.1)
       (none_left names opened before told counts all.checked all.sent all.names_are all.opened_are all.each all.reported
       all.counts_are all.queue_is)
@@ -244,7 +245,7 @@ module _ {N I O : Type 0} (note : NotesOf N) (remaining : I → Option (List ℕ
   pub broken : (names others : List RecordName) (opened last : List (Opening I O)) (before told : Option (List N))
       (counts : Counts) (queue : List (Pending I O)) (fault : RunFault)
       → UnderWay names opened before told counts queue → IsUnsent last fault ⊎ ((last ≡ []) × IsUntold fault)
-      → ChecksSome remaining contents base book (names ++ others) (opened ++ last) fault
+      → ChecksSome remaining contents service book (names ++ others) (opened ++ last) fault
   broken names others opened last before told counts queue fault all ends = record {
     sent = map sent_of all.checked ++ all.sent;
     rest = others;
@@ -278,7 +279,7 @@ module _ {N I O : Type 0} (note : NotesOf N) (remaining : I → Option (List ℕ
       (queue free later : List (Pending I O)) → waiting ≡ name ∷ rest
       → Opens old between (λ opened. HasBegun names waiting opened before told counts queue)
       → MakesRoom note remaining queue free counts told after (Ok more)
-      → Opens between new (λ opened. Sends contents base book name opened free later (Ok tt))
+      → Opens between new (λ opened. Sends contents service book name opened free later (Ok tt))
       → Opens old new (λ opened. HasBegun names rest opened before after more later)
   goes_on old between new names waiting rest name before told after counts more queue free later is all room sent =
       let held = all.2 in
@@ -297,17 +298,17 @@ module _ {N I O : Type 0} (note : NotesOf N) (remaining : I → Option (List ℕ
       (before told after : Option (List N)) (counts : Counts) (queue : List (Pending I O)) (fault given : RunFault)
       (result : Result Counts RunFault) → result ≡ Err given → given ≡ fault → IsUntold fault
       → Opens old new (λ opened. HasBegun names waiting opened before told counts queue)
-      → Opens old new (λ opened. Checks note remaining contents base book names opened before after result)
+      → Opens old new (λ opened. Checks note remaining contents service book names opened before after result)
   ends_untold old new names waiting before told after counts queue fault given result is same untold all =
       let held = all.2 in
-      let ended : ChecksSome remaining contents base book (held.0 ++ waiting) (all.0 ++ []) fault =
+      let ended : ChecksSome remaining contents service book (held.0 ++ waiting) (all.0 ++ []) fault =
       broken held.0 waiting all.0 [] before told counts queue fault held.2 (inr (refl, untold)) in
-      let whole : ChecksSome remaining contents base book (held.0 ++ waiting) all.0 fault =
-      subst (λ os. ChecksSome remaining contents base book (held.0 ++ waiting) os fault) (append-nil all.0) ended in (
+      let whole : ChecksSome remaining contents service book (held.0 ++ waiting) all.0 fault =
+      subst (λ os. ChecksSome remaining contents service book (held.0 ++ waiting) os fault) (append-nil all.0) ended in (
         all.0,
         all.1,
         rw (is, same)
-            (subst (λ ns. ChecksSome remaining contents base book ns all.0 fault) (sym held.1) whole),
+            (subst (λ ns. ChecksSome remaining contents service book ns all.0 fault) (sym held.1) whole),
       )
 
   -- the first that waits couldn't be begun
@@ -317,17 +318,17 @@ module _ {N I O : Type 0} (note : NotesOf N) (remaining : I → Option (List ℕ
       → Opens old between (λ opened. HasBegun names waiting opened before told counts queue)
       → MakesRoom note remaining queue free counts told late (Ok more)
       → Opens between new (λ opened. IsUnsent opened fault)
-      → Opens old new (λ opened. Checks note remaining contents base book names opened before after result)
+      → Opens old new (λ opened. Checks note remaining contents service book names opened before after result)
   ends_unsent old between new names waiting before told late after counts more queue free fault given result is same all
       room sent =
       let held = all.2 in
       let now = room_made held.0 all.0 before told late counts more queue free held.2 room in
-      let ended : ChecksSome remaining contents base book (held.0 ++ waiting) (all.0 ++ sent.0) fault =
+      let ended : ChecksSome remaining contents service book (held.0 ++ waiting) (all.0 ++ sent.0) fault =
       broken held.0 waiting all.0 sent.0 before late more free fault now (inl sent.2) in (
         all.0 ++ sent.0,
         adds_more old between new all.0 sent.0 all.1 sent.1,
         rw (is, same)
-            (subst (λ ns. ChecksSome remaining contents base book ns (all.0 ++ sent.0) fault) (sym held.1) ended),
+            (subst (λ ns. ChecksSome remaining contents service book ns (all.0 ++ sent.0) fault) (sym held.1) ended),
       )
 
   -- none waits any more
@@ -336,13 +337,13 @@ module _ {N I O : Type 0} (note : NotesOf N) (remaining : I → Option (List ℕ
       (result : Result Counts RunFault) → waiting ≡ []
       → Opens old new (λ opened. HasBegun names waiting opened before told counts queue)
       → ReportsRest note remaining queue counts told after result
-      → Opens old new (λ opened. Checks note remaining contents base book names opened before after result)
+      → Opens old new (λ opened. Checks note remaining contents service book names opened before after result)
   finishes old new names waiting before told after counts queue (Ok more) none all reports =
       let held = all.2 in
       let begun : held.0 ≡ names = sym (held.1 ∙ ap (λ l. held.0 ++ l) none ∙ append-nil held.0) in (
         all.0,
         all.1,
-        subst (λ ns. ChecksEach note remaining contents base book ns all.0 before after more) begun
+        subst (λ ns. ChecksEach note remaining contents service book ns all.0 before after more) begun
             (all_reported held.0 all.0 before told after counts more queue held.2 reports),
       )
   finishes old new names waiting before told after counts queue (Err fault) none all untold =
@@ -351,8 +352,8 @@ module _ {N I O : Type 0} (note : NotesOf N) (remaining : I → Option (List ℕ
   -- memory ran out after all were reported
   pub all_begun : (names : List RecordName) (opened : List (Opening I O)) (before after : Option (List N))
       (counts : Counts) (fault : RunFault)
-      → ChecksEach note remaining contents base book names opened before after counts
-      → fault ≡ Memory → ChecksSome remaining contents base book names opened fault
+      → ChecksEach note remaining contents service book names opened before after counts
+      → fault ≡ Memory → ChecksSome remaining contents service book names opened fault
   all_begun names opened before after counts fault all memory = record {
     sent = map sent_of all.checked;
     rest = [];

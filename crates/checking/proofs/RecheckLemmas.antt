@@ -12,6 +12,7 @@ use Rattle.connector_core.specs.State.{State}
 use Rattle.provisioning.specs.Openings.{Opening, Opens}
 use Rattle.provisioning.specs.declared.faults.RunFault.{RunFault}
 use Rattle.provisioning.specs.declared.faults.RunFault.TheVariants.{Memory}
+use Rattle.provisioning.specs.Services.{Service}
 use Rattle.checking.proofs.CheckLemmas.{all_begun, none_opened}
 use Rattle.checking.specs.Checks.{ChecksEach, ChecksSome, notes_of}
 use Rattle.checking.specs.Rechecks.{AreDoubted, Compares, ComparesSome, EndsComparing, Rechecks, carried, doubtful_if, doubting_each, groups_in, is_user, names_in, unasked, uncarried, with_groups}
@@ -59,10 +60,10 @@ one_more_doubted old now new doubtful i this h item so_far is =
 
 -- ---- the run
 
-module _ {I O : Type 0} (remaining : I → Option (List ℕ)) (contents : O → Option (List ℕ)) (base : List ℕ) where
+module _ {I O : Type 0} (remaining : I → Option (List ℕ)) (contents : O → Option (List ℕ)) (service : Service) where
   -- memory ran out before the first record
   pub not_compared : (book : BookMap) (known : Option (List (Opening I O))) (fault : RunFault) → fault ≡ Memory
-      → Opens known known (λ opened. ComparesSome remaining contents base book opened fault)
+      → Opens known known (λ opened. ComparesSome remaining contents service book opened fault)
   not_compared book known fault memory = ([], none_opened known, inr (refl, memory))
 
   module _ (book : BookMap) (old new : Option (List (Opening I O))) (names asked others : List RecordName)
@@ -70,10 +71,10 @@ module _ {I O : Type 0} (remaining : I → Option (List ℕ)) (contents : O → 
       (are : (asked ≡ carried (book_of book) names) × (others ≡ uncarried (book_of book) names)) where
     -- each record was checked
     pub compared : (groups before doubtful more : List Doubtful) (counts : Counts)
-        → Opens old new (λ opened. ChecksEach doubtful_if remaining contents base (book_of book)
+        → Opens old new (λ opened. ChecksEach doubtful_if remaining contents service (book_of book)
         asked opened (Some before) (Some doubtful) counts)
         → before ≡ map unasked others → groups ≡ groups_in asked → more ≡ with_groups groups doubtful
-        → Opens old new (λ opened. Compares remaining contents base book opened more)
+        → Opens old new (λ opened. Compares remaining contents service book opened more)
     compared groups before doubtful more counts checks first behind is =
         let each = checks.2 in (
           checks.0,
@@ -98,35 +99,35 @@ module _ {I O : Type 0} (remaining : I → Option (List ℕ)) (contents : O → 
 
     -- a fault ended the check
     pub not_checked : (fault : RunFault)
-        → Opens old new (λ opened. ChecksSome remaining contents base (book_of book) asked opened fault)
-        → Opens old new (λ opened. ComparesSome remaining contents base book opened fault)
+        → Opens old new (λ opened. ChecksSome remaining contents service (book_of book) asked opened fault)
+        → Opens old new (λ opened. ComparesSome remaining contents service book opened fault)
     not_checked fault checks = (
       checks.0,
       checks.1,
       inl (
         names,
         order,
-        subst (λ l. ChecksSome remaining contents base (book_of book) l checks.0 fault) are.0 checks.2,
+        subst (λ l. ChecksSome remaining contents service (book_of book) l checks.0 fault) are.0 checks.2,
       ),
     )
 
     -- memory ran out after it
     pub checked_in_vain : (before after : Option (List Doubtful)) (counts : Counts) (fault : RunFault)
-        → Opens old new (λ opened. ChecksEach doubtful_if remaining contents base (book_of book)
+        → Opens old new (λ opened. ChecksEach doubtful_if remaining contents service (book_of book)
         asked opened before after counts)
-        → fault ≡ Memory → Opens old new (λ opened. ComparesSome remaining contents base book opened fault)
+        → fault ≡ Memory → Opens old new (λ opened. ComparesSome remaining contents service book opened fault)
     checked_in_vain before after counts fault checks memory = not_checked fault (
       checks.0,
       checks.1,
-      all_begun doubtful_if remaining contents base (book_of book) asked checks.0 before after counts fault checks.2
+      all_begun doubtful_if remaining contents service (book_of book) asked checks.0 before after counts fault checks.2
           memory,
     )
 
   pub rechecked : {J : Type 0} (known later : Option (List (Opening I O))) (old new : State J)
       (doubtful : List Doubtful) (leavers : ℕ)
-      → Opens known later (λ opened. EndsComparing remaining contents base old.book opened (Ok doubtful))
+      → Opens known later (λ opened. EndsComparing remaining contents service old.book opened (Ok doubtful))
       → AreDoubted doubtful old new → leavers ≡ count_by (λ d. d.is_leaver) doubtful
-      → Opens known later (λ opened. Rechecks remaining contents base opened old new (Ok leavers))
+      → Opens known later (λ opened. Rechecks remaining contents service opened old new (Ok leavers))
   rechecked known later old new doubtful leavers compares doubts counts = (
     compares.0,
     compares.1,

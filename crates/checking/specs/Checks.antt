@@ -19,6 +19,7 @@ use Rattle.provisioning.specs.Tracks.{IsHeard, IsSetOut}
 use Rattle.provisioning.specs.declared.faults.RunFault.{RunFault}
 use Rattle.provisioning.specs.declared.faults.RunFault.TheVariants.{Memory}
 use Rattle.provisioning.specs.declared.tracks.Flight.{Flight}
+use Rattle.provisioning.specs.Services.{Service}
 use Rattle.checking.specs.Counting.{counts_after, no_counts, with_finding}
 use Rattle.checking.specs.Findings.{finding_of, looking}
 use Rattle.checking.specs.declared.begun.Begun.{Begun}
@@ -34,20 +35,20 @@ NotesOf N = RecordName → Finding → List N
 
 -- ---- a record that was begun
 
-module _ {I O : Type 0} (contents : O → Option (List ℕ)) (base : List ℕ) (book : Book) where
+module _ {I O : Type 0} (contents : O → Option (List ℕ)) (service : Service) (book : Book) where
   -- the record's search was written to a stream of its own, beside what is wanted of the record and its known id
   pub record IsAsked (name : RecordName) (f : Flight I O) (wanted : Content) (known : Option (List ℕ))
       (opened : List (Opening I O)) : Type 0 where
     pub stream : I × O
     pub request : Request
-    pub asked : looking book name ≡ Ok (record { request = request; wanted = wanted; known = known })
+    pub asked : looking service.keeps book name ≡ Ok (record { request = request; wanted = wanted; known = known })
     pub opened_are : opened ≡ Ok stream ∷ []
-    pub set_out : IsSetOut contents base request stream f
+    pub set_out : IsSetOut contents service request stream f
 
   -- that; or it can't be asked about, and no stream was opened
   abbrev pub IsBegun : RecordName → (opened : List (Opening I O)) → Begun I O → Type 0
   IsBegun name opened (Asked f wanted known) = IsAsked name f wanted known opened
-  IsBegun name opened (Hindered why) = (looking book name ≡ Err why) × (opened ≡ [])
+  IsBegun name opened (Hindered why) = (looking service.keeps book name ≡ Err why) × (opened ≡ [])
 
 -- nothing was sent: the only opening failed, with this error; or memory ran out before any
 abbrev pub IsUnsent : {I O : Type 0} → (opened : List (Opening I O)) → RunFault → Type 0
@@ -55,10 +56,10 @@ IsUnsent opened fault = ((error : Error) × (opened ≡ Err error ∷ []) × (fa
     ⊎ ((opened ≡ []) × (fault ≡ Memory))
 
 -- a record was begun, or nothing was sent
-abbrev pub Begins : {I O : Type 0} → (O → Option (List ℕ)) → List ℕ → Book → RecordName
+abbrev pub Begins : {I O : Type 0} → (O → Option (List ℕ)) → Service → Book → RecordName
     → (opened : List (Opening I O)) → Result (Begun I O) RunFault → Type 0
-Begins contents base book name opened (Ok begun) = IsBegun contents base book name opened begun
-Begins contents base book name opened (Err fault) = IsUnsent opened fault
+Begins contents service book name opened (Ok begun) = IsBegun contents service book name opened begun
+Begins contents service book name opened (Err fault) = IsUnsent opened fault
 
 -- ---- its finding
 
@@ -126,11 +127,11 @@ ReportsRest note remaining ps counts before after (Ok more) = ReportsAll note re
 ReportsRest note remaining ps counts before after (Err fault) = IsUntold fault
 
 -- a record was begun, and is the last of those under way; or nothing was sent
-abbrev pub Sends : {I O : Type 0} → (O → Option (List ℕ)) → List ℕ → Book → RecordName
+abbrev pub Sends : {I O : Type 0} → (O → Option (List ℕ)) → Service → Book → RecordName
     → (opened : List (Opening I O)) → (old new : List (Pending I O)) → Result (Unit {0}) RunFault → Type 0
-Sends {I} {O} contents base book name opened old new (Ok sent) = (begun : Begun I O)
-    × IsBegun contents base book name opened begun × (new ≡ old ++ record { name = name; begun = begun } ∷ [])
-Sends contents base book name opened old new (Err fault) = IsUnsent opened fault
+Sends {I} {O} contents service book name opened old new (Ok sent) = (begun : Begun I O)
+    × IsBegun contents service book name opened begun × (new ≡ old ++ record { name = name; begun = begun } ∷ [])
+Sends contents service book name opened old new (Err fault) = IsUnsent opened fault
 
 -- ---- all records
 
@@ -160,15 +161,15 @@ notes_of note cs = flat_map (λ c. note c.name c.finding) cs
 abbrev pub findings_of : {I O : Type 0} → List (Checked I O) → List Finding
 findings_of cs = map (λ c. c.finding) cs
 
-module _ {I O : Type 0} (remaining : I → Option (List ℕ)) (contents : O → Option (List ℕ)) (base : List ℕ)
+module _ {I O : Type 0} (remaining : I → Option (List ℕ)) (contents : O → Option (List ℕ)) (service : Service)
     (book : Book) where
   -- the record's search was sent on its stream, and the finding is that of what came there
   pub record IsChecked (c : Checked I O) : Type 0 where
-    pub begins : IsBegun contents base book c.name c.opened c.begun
+    pub begins : IsBegun contents service book c.name c.opened c.begun
     pub found : IsFound remaining c.begun c.finding
 
   abbrev pub IsSent : Sent I O → Type 0
-  IsSent s = IsBegun contents base book s.name s.opened s.begun
+  IsSent s = IsBegun contents service book s.name s.opened s.begun
 
   -- The records up to some of these were begun, and then the run ended: the next stream couldn't be opened, a line
   -- couldn't be written, or memory ran out
@@ -182,14 +183,14 @@ module _ {I O : Type 0} (remaining : I → Option (List ℕ)) (contents : O → 
     pub ends : IsUnsent last fault ⊎ ((last ≡ []) × IsUntold fault)
 
 module _ {N I O : Type 0} (note : NotesOf N) (remaining : I → Option (List ℕ)) (contents : O → Option (List ℕ))
-    (base : List ℕ) (book : Book) where
+    (service : Service) (book : Book) where
   -- each of these records was checked, reported, noted and counted
   pub record ChecksEach (names : List RecordName) (opened : List (Opening I O)) (before after : Option (List N))
       (counts : Counts) : Type 0 where
     pub checked : List (Checked I O)
     pub names_are : names ≡ names_of checked
     pub opened_are : opened ≡ openings_of checked
-    pub each : AllByRecursion (IsChecked remaining contents base book) checked
+    pub each : AllByRecursion (IsChecked remaining contents service book) checked
     pub noted : Adds before after (notes_of note checked)
     pub counts_are : counts ≡ counts_after no_counts (findings_of checked)
 
@@ -197,7 +198,7 @@ module _ {N I O : Type 0} (note : NotesOf N) (remaining : I → Option (List ℕ
   abbrev pub Checks : List RecordName → (opened : List (Opening I O)) → (before after : Option (List N))
       → Result Counts RunFault → Type 0
   Checks names opened before after (Ok counts) = ChecksEach names opened before after counts
-  Checks names opened before after (Err fault) = ChecksSome remaining contents base book names opened fault
+  Checks names opened before after (Err fault) = ChecksSome remaining contents service book names opened fault
 
 -- ---- the printed run
 
@@ -213,10 +214,10 @@ nothing_noted name finding = []
 
 -- the records of a connector were checked in the order of a push, and the last line was printed; or memory ran out
 -- before the first of them. It isn't known which streams were opened before
-abbrev pub ChecksAloud : {I O : Type 0} → (I → Option (List ℕ)) → (O → Option (List ℕ)) → List ℕ
+abbrev pub ChecksAloud : {I O : Type 0} → (I → Option (List ℕ)) → (O → Option (List ℕ)) → Service
     → BookMap → Result Counts RunFault → Type 0
-ChecksAloud {I} {O} remaining contents base book result = ((names : List RecordName) × (opened : List (Opening I O))
+ChecksAloud {I} {O} remaining contents service book result = ((names : List RecordName) × (opened : List (Opening I O))
     × (checked : Result Counts RunFault) × IsSettleOrder (keys book) names
-    × Checks nothing_noted remaining contents base (book_of book) names opened None None checked
+    × Checks nothing_noted remaining contents service (book_of book) names opened None None checked
     × Concludes checked result)
     ⊎ (result ≡ Err Memory)

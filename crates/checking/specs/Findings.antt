@@ -4,7 +4,7 @@ use Rattle.std.specs.Str.{bytes_eq}
 use Rattle.scim_key.specs.Records.{same_name}
 use Rattle.scim_key.specs.Revisions.{RevisionValue, before}
 use Rattle.scim_key.specs.declared.records.RecordName.{RecordName}
-use Rattle.scim_resource.specs.Contents.{content_name, content_revision}
+use Rattle.scim_resource.specs.Contents.{content_name, content_revision, content_with}
 use Rattle.scim_resource.specs.Rows.{ShownRecord}
 use Rattle.scim_resource.specs.declared.contents.Content.{Content}
 use Rattle.scim_message.specs.declared.messages.Answer.{Answer}
@@ -17,6 +17,8 @@ use Rattle.mapping.specs.declared.groups.ImageFault.TheVariants.{MemberWithoutId
 use Rattle.connector_core.specs.Asking.{search_for}
 use Rattle.connector_core.specs.Book.{Book, known_id, wanted_row}
 use Rattle.connector_core.specs.Changing.{member_at}
+use Rattle.connector_core.specs.declared.keeps.Keeps.{Keeps}
+use Rattle.connector_core.specs.declared.keeps.Keeps.TheVariants.{Revisions, Versions}
 use Rattle.provisioning.specs.declared.faults.RecordFault.TheVariants.{NoSuchRecord, Refused, Unanswered, Unfit}
 use Rattle.comparing.specs.Aspects.{agree, is_same}
 use Rattle.comparing.specs.declared.aspects.Aspect.TheVariants.{Active}
@@ -29,22 +31,28 @@ use Rattle.checking.specs.declared.looking.Look.{Look}
 
 -- ---- what is asked
 
+-- what is wanted of a provider's resource, which has no revision if the provider drops the source extension
+abbrev pub wanted_at : Keeps → Content → Content
+wanted_at Revisions content = content
+wanted_at Versions content = content_with None content
+
 -- by the image of the wanted row, or its first member without an id (the last case doesn't occur: no image runs out of
 -- memory)
-abbrev pub looking_with : (known : Option (List ℕ)) → Row → Result Content ImageFault → Result Look Hindrance
-looking_with known row (Ok wanted) = Ok (record { request = search_for row; wanted = wanted; known = known })
-looking_with known row (Err (MemberWithoutId place)) = Err (Waits (member_at row place))
-looking_with known row (Err Memory) = Err (Fault Unfit)
+abbrev pub looking_with : Keeps → (known : Option (List ℕ)) → Row → Result Content ImageFault → Result Look Hindrance
+looking_with keeps known row (Ok image) =
+    Ok (record { request = search_for row; wanted = wanted_at keeps image; known = known })
+looking_with keeps known row (Err (MemberWithoutId place)) = Err (Waits (member_at row place))
+looking_with keeps known row (Err Memory) = Err (Fault Unfit)
 
-abbrev pub looking_at : (id_of : RecordName → Option (List ℕ)) → RecordName → Option Row
+abbrev pub looking_at : Keeps → (id_of : RecordName → Option (List ℕ)) → RecordName → Option Row
     → Result Look Hindrance
-looking_at id_of name None = Err (Fault NoSuchRecord)
-looking_at id_of name (Some row) = looking_with (id_of name) row (imaged id_of row)
+looking_at keeps id_of name None = Err (Fault NoSuchRecord)
+looking_at keeps id_of name (Some row) = looking_with keeps (id_of name) row (imaged id_of row)
 
--- The search for a record by its name, beside the image of its wanted row and the id that is known; or why it isn't
--- sent
-abbrev pub looking : Book → RecordName → Result Look Hindrance
-looking book name = looking_at (known_id book) name (wanted_row book name)
+-- The search for a record by its name, beside the image of its wanted row, as a provider of this kind has it, and the
+-- id that is known; or why it isn't sent
+abbrev pub looking : Keeps → Book → RecordName → Result Look Hindrance
+looking keeps book name = looking_at keeps (known_id book) name (wanted_row book name)
 
 -- ---- whether a resource is as it is wanted
 

@@ -15,6 +15,7 @@ use Rattle.connector_core.specs.State.{State}
 use Rattle.provisioning.specs.Openings.{Opening}
 use Rattle.provisioning.specs.declared.faults.RunFault.{RunFault}
 use Rattle.provisioning.specs.declared.faults.RunFault.TheVariants.{Memory}
+use Rattle.provisioning.specs.Services.{Service}
 use Rattle.checking.specs.Checks.{ChecksEach, ChecksSome, notes_of}
 use Rattle.checking.specs.Findings.{is_in_step, same_id}
 use Rattle.checking.specs.declared.counts.Counts.{Counts}
@@ -82,7 +83,7 @@ with_groups groups doubtful = if list_any (λ d. d.may_move) doubtful then doubt
 
 -- ---- the run
 
-module _ {I O : Type 0} (remaining : I → Option (List ℕ)) (contents : O → Option (List ℕ)) (base : List ℕ)
+module _ {I O : Type 0} (remaining : I → Option (List ℕ)) (contents : O → Option (List ℕ)) (service : Service)
     (book : BookMap) where
   -- Each record whose wanted revision is confirmed was checked, in the order of a push, and no other. Doubtful is each
   -- record that wasn't checked, each that wasn't found in step, and, if a user's id may change, each group
@@ -90,7 +91,7 @@ module _ {I O : Type 0} (remaining : I → Option (List ℕ)) (contents : O → 
     pub names : List RecordName
     pub counts : Counts
     pub order : IsSettleOrder (keys book) names
-    pub checks : ChecksEach doubtful_if remaining contents base (book_of book) (carried (book_of book) names)
+    pub checks : ChecksEach doubtful_if remaining contents service (book_of book) (carried (book_of book) names)
         opened None None counts
     pub doubtful_are : doubtful ≡ with_groups (groups_in (carried (book_of book) names))
         (map unasked (uncarried (book_of book) names) ++ notes_of doubtful_if checks.checked)
@@ -98,7 +99,7 @@ module _ {I O : Type 0} (remaining : I → Option (List ℕ)) (contents : O → 
   -- a fault ended that; or memory ran out before the first of them
   abbrev pub ComparesSome : (opened : List (Opening I O)) → RunFault → Type 0
   ComparesSome opened fault = ((names : List RecordName) × IsSettleOrder (keys book) names
-      × ChecksSome remaining contents base (book_of book) (carried (book_of book) names) opened fault)
+      × ChecksSome remaining contents service (book_of book) (carried (book_of book) names) opened fault)
       ⊎ ((opened ≡ []) × (fault ≡ Memory))
 
   -- one of these
@@ -122,19 +123,19 @@ pub record AreDoubted {J : Type 0} (doubtful : List Doubtful) (old new : State J
   pub journal : new.journal ≡ old.journal
 
 module _ {I O J : Type 0} (remaining : I → Option (List ℕ)) (contents : O → Option (List ℕ))
-    (base : List ℕ) where
+    (service : Service) where
   -- the records were compared, and what isn't in step is doubted: of so many records the account is active, and
   -- shouldn't be
   pub record Doubts (opened : List (Opening I O)) (old new : State J) (leavers : ℕ) : Type 0 where
     pub doubtful : List Doubtful
-    pub compares : Compares remaining contents base old.book opened doubtful
+    pub compares : Compares remaining contents service old.book opened doubtful
     pub doubts : AreDoubted doubtful old new
     pub leavers_are : leavers ≡ count_by (λ d. d.is_leaver) doubtful
 
   -- that; or a fault ended the run, and the connector is as it was
   abbrev pub Rechecks : (opened : List (Opening I O)) → (old new : State J) → Result ℕ RunFault → Type 0
   Rechecks opened old new (Ok leavers) = Doubts opened old new leavers
-  Rechecks opened old new (Err fault) = ComparesSome remaining contents base old.book opened fault × (new ≡ old)
+  Rechecks opened old new (Err fault) = ComparesSome remaining contents service old.book opened fault × (new ≡ old)
 
   -- the same, if it isn't known which streams were opened before
   abbrev pub RechecksAt : (old new : State J) → Result ℕ RunFault → Type 0

@@ -9,8 +9,7 @@ use crate::findings::Finding;
 use crate::looking::{Hindrance, Look, look_up};
 use connector_core::Connector;
 use journal_core::Journal;
-use provisioning::{Dial, Flight, Recording, RunFault, hear, open_fault, send_on};
-use scim_client::ScimService;
+use provisioning::{Dial, Flight, Recording, RunFault, ServiceProvider, hear, open_fault, send_on};
 use scim_key::{RecordName, ResourceId};
 use scim_resource::Content;
 use std::alloc::Global;
@@ -34,7 +33,7 @@ pub struct Pending<R: Drop, W: Drop> {
 /// Sends the search for a record on a new stream, if it can be asked about.
 pub(crate) fn begin<J: Journal, D: Dial>(
     alloc: Global,
-    service: &ScimService,
+    service: &ServiceProvider<'_>,
     connector: &Connector<J>,
     dial: &mut D,
     name: &RecordName,
@@ -42,7 +41,7 @@ pub(crate) fn begin<J: Journal, D: Dial>(
     ensures { Opens (D.opened dial.old) (D.opened dial.new) (λ opened. Begins
         D.Writer.contents service.now (book_of connector.now.book) name.now opened result) }
 {
-    let look = match look_up(alloc, connector, name)? {
+    let look = match look_up(alloc, service.keeps, connector, name)? {
         Ok(look) => look,
         Err(why) => return Ok(Begun::Hindered(why)),
     };

@@ -3,10 +3,10 @@ ghost use Rattle.std.specs.Prelude.{◌≡◌, IfErr, IfOk, Some};
 ghost use Rattle.std.specs.Option.{option_copied};
 ghost use Rattle.connector_core.specs.Maps.{book_of};
 ghost use Rattle.provisioning.specs.declared.faults.RunFault.TheVariants.{Memory};
-ghost use Rattle.checking.specs.Findings.{looking};
+ghost use Rattle.checking.specs.Findings.{looking, wanted_at};
 ghost use Rattle.checking.specs.Lines.{hindrance_text};
 
-use connector_core::{Connector, member_at, search_for};
+use connector_core::{Connector, Keeps, member_at, search_for};
 use journal_core::Journal;
 use mapping::{ImageFault, row_content};
 use provisioning::{RecordFault, RunFault};
@@ -20,7 +20,7 @@ use std::fmt;
 #[derive(Drop)]
 pub struct Look {
     pub request: Request,
-    /// The image of the wanted row.
+    /// The image of the wanted row, as the provider has it.
     pub wanted: Content,
     /// The id that the connector knows.
     pub known: Option<ResourceId>,
@@ -45,23 +45,34 @@ impl fmt::Display for Hindrance {
     }
 }
 
-/// The search for a record, or why it isn't sent.
+/// What is wanted of the resource of a provider of this kind.
+fn wanted_at(keeps: Keeps, image: Content) -> Content
+    ensures { result ≡ wanted_at keeps image }
+{
+    match keeps {
+        Keeps::Revisions => image,
+        Keeps::Versions => image.with_revision(None),
+    }
+}
+
+/// The search for a record at a provider of this kind, or why it isn't sent.
 pub(crate) fn look_up<J: Journal>(
     alloc: Global,
+    keeps: Keeps,
     connector: &Connector<J>,
     name: &RecordName,
 ) -> Result<Result<Look, Hindrance>, RunFault>
     ensures looks { IfOk result (λ looked. looked
-        ≡ looking (book_of connector.now.book) name.now) }
+        ≡ looking keeps (book_of connector.now.book) name.now) }
     ensures fault { IfErr result (λ fault. fault ≡ Memory) }
 {
     let Some(row) = connector.row(name) else {
         return Ok(Err(Hindrance::Fault(RecordFault::NoSuchRecord)));
     };
     match row_content(alloc, row, connector) {
-        Ok(wanted) => Ok(Ok(Look {
+        Ok(image) => Ok(Ok(Look {
             request: search_for(alloc, row)?,
-            wanted,
+            wanted: wanted_at(keeps, image),
             known: copied(connector.id(name))?,
         })),
         Err(ImageFault::MemberWithoutId { place }) => {

@@ -8,8 +8,7 @@ use crate::rechecking::recheck_all;
 use crate::running::check_all;
 use connector_core::Connector;
 use journal_core::Journal;
-use provisioning::{Remote, RunFault, names_in_order, unwritten};
-use scim_client::ScimService;
+use provisioning::{Remote, RunFault, ServiceProvider, names_in_order, unwritten};
 use std::alloc::Global;
 use std::io::{Eprint, Read, Write};
 use std::net::Net;
@@ -21,7 +20,7 @@ use timed_streams::TimedHandle;
 pub fn check<'a, N: Net + Clock, J: Journal, W: Write>(
     rt: &'a N,
     alloc: Global,
-    service: &ScimService,
+    service: &ServiceProvider<'_>,
     connector: &Connector<J>,
     is_quiet: bool,
     streams: u32,
@@ -46,7 +45,7 @@ pub fn check<'a, N: Net + Clock, J: Journal, W: Write>(
 pub fn recheck<'a, N: Net + Clock + Eprint, J: Journal>(
     rt: &'a N,
     alloc: Global,
-    service: &ScimService,
+    service: &ServiceProvider<'_>,
     connector: &mut Connector<J>,
     is_quiet: bool,
     streams: u32,

@@ -9,8 +9,7 @@ use crate::running::check_all;
 use crate::telling::TellFinding;
 use connector_core::Connector;
 use journal_core::Journal;
-use provisioning::{Dial, RunFault, names_in_order};
-use scim_client::ScimService;
+use provisioning::{Dial, RunFault, ServiceProvider, names_in_order};
 use scim_key::RecordName;
 use std::alloc::{AllocError, Global};
 
@@ -19,7 +18,7 @@ use std::alloc::{AllocError, Global};
 /// active, and shouldn't be. If the check ends early, the connector stays as it was.
 pub fn recheck_all<J: Journal, D: Dial, T: TellFinding + Drop>(
     alloc: Global,
-    service: &ScimService,
+    service: &ServiceProvider<'_>,
     connector: &mut Connector<J>,
     dial: &mut D,
     teller: T,
@@ -41,7 +40,7 @@ pub fn recheck_all<J: Journal, D: Dial, T: TellFinding + Drop>(
 /// found in step, and, if the id of a user may change, the groups.
 fn compare<J: Journal, D: Dial, T: TellFinding + Drop>(
     alloc: Global,
-    service: &ScimService,
+    service: &ServiceProvider<'_>,
     connector: &Connector<J>,
     dial: &mut D,
     teller: T,

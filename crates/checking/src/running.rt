@@ -12,8 +12,7 @@ use crate::findings::Finding;
 use crate::telling::TellFinding;
 use connector_core::Connector;
 use journal_core::Journal;
-use provisioning::{Dial, RunFault, unwritten};
-use scim_client::ScimService;
+use provisioning::{Dial, RunFault, ServiceProvider, unwritten};
 use scim_key::RecordName;
 use std::alloc::Global;
 use std::collections::VecDeque;
@@ -23,7 +22,7 @@ use std::collections::VecDeque;
 /// can't be reported, or memory runs out.
 pub fn check_all<J: Journal, D: Dial, T: TellFinding>(
     alloc: Global,
-    service: &ScimService,
+    service: &ServiceProvider<'_>,
     connector: &Connector<J>,
     dial: &mut D,
     teller: &mut T,
@@ -49,7 +48,7 @@ pub fn check_all<J: Journal, D: Dial, T: TellFinding>(
 /// Checks these records.
 fn check_names<J: Journal, D: Dial, T: TellFinding>(
     alloc: Global,
-    service: &ScimService,
+    service: &ServiceProvider<'_>,
     connector: &Connector<J>,
     dial: &mut D,
     teller: &mut T,
@@ -93,7 +92,7 @@ fn make_room<D: Dial, T: TellFinding>(
 /// Sends the search for a record, which is then under way behind the others.
 fn send<J: Journal, D: Dial>(
     alloc: Global,
-    service: &ScimService,
+    service: &ServiceProvider<'_>,
     connector: &Connector<J>,
     dial: &mut D,
     under_way: &mut VecDeque<Pending<D::Reader, D::Writer>>,

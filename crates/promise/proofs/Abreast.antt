@@ -8,6 +8,7 @@ use Rattle.scim_key.specs.declared.records.RecordName.{RecordName}
 use Rattle.journal_core.specs.declared.journals.Journal.{Ghosts as Journals}
 use Rattle.connector_core.specs.Maps.{BookMap, book_of}
 use Rattle.connector_core.specs.State.{State as Connector}
+use Rattle.connector_core.specs.declared.keeps.Keeps.TheVariants.{Revisions}
 use Rattle.provisioning.specs.Abreast.{PushesAllAbreast, PushesBoth, groups_of, is_user, users_of}
 use Rattle.provisioning.specs.Openings.{Opening}
 use Rattle.provisioning.specs.Orders.{IsPushOrder}
@@ -21,6 +22,7 @@ use Rattle.provisioning.specs.declared.records.Standing.{Standing}
 use Rattle.provisioning.specs.declared.tracks.Account.{Account}
 use Rattle.provisioning.specs.declared.tracks.Track.{Track}
 use Rattle.provisioning.specs.declared.tracks.Track.TheVariants.{UnderWay, Delayed, Done as IsDone}
+use Rattle.provisioning.specs.Services.{Service, keeping_at}
 use Rattle.promise.specs.Abreast.{AbreastDoes, IsPushAbreast}
 use Rattle.promise.proofs.Bags.{AreApart, Holds, all_front, all_mapped, apart_all, apart_one, holds_between, holds_longer, holds_mapped, holds_of}
 use Rattle.promise.proofs.Flights.{Begun, Makes, SetOut, begun, heard, makes_done, makes_end, makes_in, makes_out, makes_skip, makes_waits, makes_without, put_in, set_out, take_out}
@@ -28,10 +30,10 @@ use Rattle.promise.proofs.Names.{apart_back, apart_front, keys_apart, parted}
 
 -- ---- the names of the records that aren't reported
 
-begun_name : {I O : Type 0} (contents : O → Option (List ℕ)) (base : List ℕ) (a : Account) (opened : List (Opening I O)) (book : BookMap) (track : Track I O) → Begins contents base a opened (book_of book) track → name_of track ≡ a.name
-begun_name contents base a opened book (UnderWay later f) b = ap (λ (x : Account). x.name) b.later_is
-begun_name contents base a opened book (Delayed later) b = absurd b
-begun_name contents base a opened book (IsDone later standing) b = ap (λ (x : Account). x.name) b.1
+begun_name : {I O : Type 0} (contents : O → Option (List ℕ)) (service : Service) (a : Account) (opened : List (Opening I O)) (book : BookMap) (track : Track I O) → Begins contents service a opened (book_of book) track → name_of track ≡ a.name
+begun_name contents service a opened book (UnderWay later f) b = ap (λ (x : Account). x.name) b.later_is
+begun_name contents service a opened book (Delayed later) b = absurd b
+begun_name contents service a opened book (IsDone later standing) b = ap (λ (x : Account). x.name) b.1
 
 module _ {I O : Type 0} where
   abbrev names_of : List (Track I O) → List RecordName → List RecordName
@@ -87,22 +89,22 @@ module _ {J I O : Type 0} (P Q : Type 0) (h : Journals J) (received : I → Opti
 
   -- ---- one move
 
-  begun_more : (first opened : List (Opening I O)) (told : List Done) (old new : Scene I O J) → IsBegun received posted h base window first told old new → From opened new → From (first ++ opened) old
+  begun_more : (first opened : List (Opening I O)) (told : List Done) (old new : Scene I O J) → IsBegun received posted h (keeping_at base) window first told old new → From opened new → From (first ++ opened) old
   begun_more first opened told old new b from bs are apart =
       let so : AreApart (map name_of old.tracks ++ b.name ∷ new.waiting) = subst (λ (l : List RecordName). AreApart (map name_of old.tracks ++ l)) b.waiting apart in
       let away = apart_one b.name (names_of old.tracks new.waiting) (map name_of old.tracks ++ b.name ∷ new.waiting) (holds_between b.name (map name_of old.tracks) new.waiting) so in
-      let named : name_of b.track ≡ b.name = begun_name posted base (fresh b.name) first old.state.book b.track b.begins in
+      let named : name_of b.track ≡ b.name = begun_name posted (keeping_at base) (fresh b.name) first old.state.book b.track b.begins in
       let set = set_out P Q h received posted base last (fresh b.name) first old.state.book b.track b.begins in
       let into = put_in Sets bs old.tracks new.tracks b.track set are (holds_of b.track old.tracks new.tracks b.tracks) in
       let ends = from into.0 into.1 (comes_apart b.name b.track old.tracks new.tracks new.waiting b.tracks named away.0 away.1) in
       begun P Q h received posted base last (fresh b.name) first opened b.track old.state.book b.begins bs (all_away b.name bs old.tracks new.waiting are away.0)
       (makes_out P Q h received posted base last (b.track, set) bs into.0 opened old.state.book into.2 (on_book opened into.0 old.state new.state b.state ends))
 
-  continued_more : (first opened : List (Opening I O)) (told : List Done) (old new : Scene I O J) → IsContinued received posted h base window first told old new → From opened new → From (first ++ opened) old
+  continued_more : (first opened : List (Opening I O)) (told : List Done) (old new : Scene I O J) → IsContinued received posted h (keeping_at base) window first told old new → From opened new → From (first ++ opened) old
   continued_more first opened told old new c from bs are apart =
       let out = take_out Sets bs c.others (UnderWay c.account c.flight) (subst (λ (l : List (Track I O)). Holds (UnderWay c.account c.flight) c.others l) (sym are) (holds_of (UnderWay c.account c.flight) c.others old.tracks c.before)) in
       let away = leaves_apart (UnderWay c.account c.flight) c.others old.tracks old.waiting c.before apart in
-      let named : name_of c.track ≡ c.account.name = begun_name posted base (faulted c.fault c.account) first new.state.book c.track c.begins in
+      let named : name_of c.track ≡ c.account.name = begun_name posted (keeping_at base) (faulted c.fault c.account) first new.state.book c.track c.begins in
       let set = set_out P Q h received posted base last (faulted c.fault c.account) first new.state.book c.track c.begins in
       let into = put_in Sets out.1 c.others new.tracks c.track set out.2 (holds_of c.track c.others new.tracks c.after) in
       let later = subst (λ (l : List RecordName). AllByRecursion (λ n. n ≢ c.account.name) (names_of c.others l) × AreApart (names_of c.others l)) (sym c.waiting) away in
@@ -112,7 +114,7 @@ module _ {J I O : Type 0} (P Q : Type 0) (h : Journals J) (received : I → Opti
       (begun P Q h received posted base last (faulted c.fault c.account) first opened c.track new.state.book c.begins out.1 (all_away c.account.name out.1 c.others old.waiting out.2 away.0)
       (makes_out P Q h received posted base last (c.track, set) out.1 into.0 opened new.state.book into.2 ends)))
 
-  delayed_more : (first opened : List (Opening I O)) (told : List Done) (old new : Scene I O J) → IsDelayed received posted h base window first told old new → From opened new → From (first ++ opened) old
+  delayed_more : (first opened : List (Opening I O)) (told : List Done) (old new : Scene I O J) → IsDelayed received posted h (keeping_at base) window first told old new → From opened new → From (first ++ opened) old
   delayed_more first opened told old new d from bs are apart =
       let later = Delayed (put_off (faulted d.fault d.account)) in
       let out = take_out Sets bs d.others (UnderWay d.account d.flight) (subst (λ (l : List (Track I O)). Holds (UnderWay d.account d.flight) d.others l) (sym are) (holds_of (UnderWay d.account d.flight) d.others old.tracks d.before)) in
@@ -126,12 +128,12 @@ module _ {J I O : Type 0} (P Q : Type 0) (h : Journals J) (received : I → Opti
       (makes_without P Q h received posted base last (put_off (faulted d.fault d.account)) tt out.1 opened new.state.book
       (makes_out P Q h received posted base last (later, tt) out.1 into.0 opened new.state.book into.2 ends))))
 
-  resumed_more : (first opened : List (Opening I O)) (told : List Done) (old new : Scene I O J) → IsResumed received posted h base window first told old new → From opened new → From (first ++ opened) old
+  resumed_more : (first opened : List (Opening I O)) (told : List Done) (old new : Scene I O J) → IsResumed received posted h (keeping_at base) window first told old new → From opened new → From (first ++ opened) old
   resumed_more first opened told old new r from bs are apart =
       let waits = Delayed r.account in
       let out = take_out Sets bs r.others waits (subst (λ (l : List (Track I O)). Holds waits r.others l) (sym are) (holds_of waits r.others old.tracks r.before)) in
       let away = leaves_apart waits r.others old.tracks old.waiting r.before apart in
-      let named : name_of r.track ≡ r.account.name = begun_name posted base r.account first old.state.book r.track r.begins in
+      let named : name_of r.track ≡ r.account.name = begun_name posted (keeping_at base) r.account first old.state.book r.track r.begins in
       let set = set_out P Q h received posted base last r.account first old.state.book r.track r.begins in
       let into = put_in Sets out.1 r.others new.tracks r.track set out.2 (holds_of r.track r.others new.tracks r.after) in
       let later = subst (λ (l : List RecordName). AllByRecursion (λ n. n ≢ r.account.name) (names_of r.others l) × AreApart (names_of r.others l)) (sym r.waiting) away in
@@ -141,7 +143,7 @@ module _ {J I O : Type 0} (P Q : Type 0) (h : Journals J) (received : I → Opti
       (begun P Q h received posted base last r.account first opened r.track old.state.book r.begins out.1 (all_away r.account.name out.1 r.others old.waiting out.2 away.0)
       (makes_out P Q h received posted base last (r.track, set) out.1 into.0 opened old.state.book into.2 (on_book opened into.0 old.state new.state r.state ends))))
 
-  reported_more : (first opened : List (Opening I O)) (told : List Done) (old new : Scene I O J) → IsReported received posted h base window first told old new → From opened new → From (first ++ opened) old
+  reported_more : (first opened : List (Opening I O)) (told : List Done) (old new : Scene I O J) → IsReported received posted h (keeping_at base) window first told old new → From opened new → From (first ++ opened) old
   reported_more first opened told old new r from bs are apart =
       let done = IsDone r.account r.standing in
       let out = take_out Sets bs new.tracks done (subst (λ (l : List (Track I O)). Holds done new.tracks l) (sym are) (holds_of done new.tracks old.tracks r.tracks)) in
@@ -151,7 +153,7 @@ module _ {J I O : Type 0} (P Q : Type 0) (h : Journals J) (received : I → Opti
       (makes_done P Q h received posted base last r.account r.standing out.0 out.1 (first ++ opened) old.state.book
       (makes_skip P Q h received posted base last first opened out.1 old.state.book (on_book opened out.1 old.state new.state r.state ends)))
 
-  moved_more : (first opened : List (Opening I O)) (told : List Done) (old new : Scene I O J) → IsMoved received posted h base window first told old new → From opened new → From (first ++ opened) old
+  moved_more : (first opened : List (Opening I O)) (told : List Done) (old new : Scene I O J) → IsMoved received posted h (keeping_at base) window first told old new → From opened new → From (first ++ opened) old
   moved_more first opened told old new m from bs are apart =
       let out = take_out Sets bs m.others m.track (subst (λ (l : List (Track I O)). Holds m.track m.others l) (sym are) (holds_of m.track m.others old.tracks m.before)) in
       let into = put_in Sets out.1 m.others new.tracks m.track out.0 out.2 (holds_of m.track m.others new.tracks m.after) in
@@ -162,7 +164,7 @@ module _ {J I O : Type 0} (P Q : Type 0) (h : Journals J) (received : I → Opti
       (makes_in P Q h received posted base last (m.track, out.0) out.1 bs opened old.state.book out.3
       (makes_out P Q h received posted base last (m.track, out.0) out.1 into.0 opened old.state.book into.2 (on_book opened into.0 old.state new.state m.state ends)))
 
-  move_more : (first opened : List (Opening I O)) (told : List Done) (old new : Scene I O J) → IsMove received posted h base window first told old new → From opened new → From (first ++ opened) old
+  move_more : (first opened : List (Opening I O)) (told : List Done) (old new : Scene I O J) → IsMove received posted h (keeping_at base) window first told old new → From opened new → From (first ++ opened) old
   move_more first opened told old new (inl b) from = begun_more first opened told old new b from
   move_more first opened told old new (inr (inl c)) from = continued_more first opened told old new c from
   move_more first opened told old new (inr (inr (inl d))) from = delayed_more first opened told old new d from
@@ -172,7 +174,7 @@ module _ {J I O : Type 0} (P Q : Type 0) (h : Journals J) (received : I → Opti
 
   -- ---- moves
 
-  moves_more : (points : List (Point I O J)) (first opened : List (Opening I O)) (told : List Done) (old new : Scene I O J) → AreMoves received posted h base window points first told old new → From opened new → From (first ++ opened) old
+  moves_more : (points : List (Point I O J)) (first opened : List (Opening I O)) (told : List Done) (old new : Scene I O J) → AreMoves received posted h (keeping_at base) window points first told old new → From opened new → From (first ++ opened) old
   moves_more [] first opened told old new (none, silent, same) from bs are apart =
       subst (λ (s : Scene I O J). From (first ++ opened) s) same (λ cs these away. on_streams (first ++ opened) opened cs new.state.book (ap (λ (l : List (Opening I O)). l ++ opened) none) (from cs these away)) bs are apart
   moves_more (p ∷ points) first opened told old new m from bs are apart =
@@ -181,28 +183,28 @@ module _ {J I O : Type 0} (P Q : Type 0) (h : Journals J) (received : I → Opti
 
   -- ---- each answer that is under way is learnt from
 
-  closed : (track : Track I O) (set : Sets track) (bs : List Known) (opened : List (Opening I O)) (old new : Connector J) (result : Result (Unit {0}) RunFault) → Closes received h track old new result
+  closed : (track : Track I O) (set : Sets track) (bs : List Known) (opened : List (Opening I O)) (old new : Connector J) (result : Result (Unit {0}) RunFault) → Closes received h Revisions track old new result
       → Ends opened bs new.book → Ends opened ((track, set) ∷ bs) old.book
   closed (UnderWay a f) set bs opened old new (Ok done) closes ends = heard P Q h received posted base last a f set bs opened old new (Ok closes.0) closes.1 ends
   closed (UnderWay a f) set bs opened old new (Err fault) closes ends = heard P Q h received posted base last a f set bs opened old new (Err fault) closes ends
   closed (Delayed a) set bs opened old new result closes ends = makes_waits P Q h received posted base last a set bs opened old.book (on_book opened bs old new closes.0 ends)
   closed (IsDone a standing) set bs opened old new result closes ends = makes_done P Q h received posted base last a standing set bs opened old.book (on_book opened bs old new closes.0 ends)
 
-  looked : (tracks : List (Track I O)) (opened : List (Opening I O)) (old new : Connector J) → LooksThrough received h tracks old new → Ends opened [] new.book → (bs : List Known) → tracks_of bs ≡ tracks → Ends opened bs old.book
+  looked : (tracks : List (Track I O)) (opened : List (Opening I O)) (old new : Connector J) → LooksThrough received h Revisions tracks old new → Ends opened [] new.book → (bs : List Known) → tracks_of bs ≡ tracks → Ends opened bs old.book
   looked [] opened old new same ends bs none =
       subst (λ (l : List Known). Ends opened l old.book) (sym (no_more bs none)) (on_book opened [] old new same ends)
   looked (track ∷ tracks) opened old new l ends [] are = absurd (cc)
   looked (track ∷ tracks) opened old new l ends (b ∷ bs) are =
       let first : track ≡ b.0 = cc in
       let more : tracks_of bs ≡ tracks = cc in
-      closed b.0 b.1 bs opened old l.1 l.0 (subst (λ (t : Track I O). Closes received h t old l.1 l.0) first l.2) (looked tracks opened l.1 new l.3 ends bs more)
+      closed b.0 b.1 bs opened old l.1 l.0 (subst (λ (t : Track I O). Closes received h Revisions t old l.1 l.0) first l.2) (looked tracks opened l.1 new l.3 ends bs more)
 
   -- ---- what ends a run
 
   unopened : (opened : List (Opening I O)) (bs : List Known) (book : BookMap) → Ends [] bs book → Ends opened bs book
   unopened opened bs book ends = on_streams opened (opened ++ []) bs book (sym (append-nil opened)) (makes_skip P Q h received posted base last opened [] bs book ends)
 
-  advanced : (track : Track I O) (set : Sets track) (bs : List Known) (opened : List (Opening I O)) (old new : Connector J) (fault : RunFault) → Advances received posted h base track opened old new (Err fault)
+  advanced : (track : Track I O) (set : Sets track) (bs : List Known) (opened : List (Opening I O)) (old new : Connector J) (fault : RunFault) → Advances received posted h (keeping_at base) track opened old new (Err fault)
       → Ends opened bs new.book → Ends opened ((track, set) ∷ bs) old.book
   advanced (UnderWay a f) set bs opened old new fault (inl c) ends = heard P Q h received posted base last a f set bs opened old new (Ok c.fault) c.learnt ends
   advanced (UnderWay a f) set bs opened old new fault (inr (inl d)) ends = absurd (cc d.result_is)
@@ -218,7 +220,7 @@ module _ {J I O : Type 0} (P Q : Type 0) (h : Journals J) (received : I → Opti
       makes_in P Q h received posted base last (done, out.0) out.1 bs opened scene.state.book out.3
       (makes_done P Q h received posted base last a standing out.0 out.1 opened scene.state.book (unopened opened out.1 scene.state.book (on_book [] out.1 scene.state new same (from out.1 out.2))))
 
-  caused : (opened : List (Opening I O)) (scene : Scene I O J) (rest : List (Track I O)) (new : Connector J) (fault : RunFault) → Causes received posted h base window opened scene rest new fault
+  caused : (opened : List (Opening I O)) (scene : Scene I O J) (rest : List (Track I O)) (new : Connector J) (fault : RunFault) → Causes received posted h (keeping_at base) window opened scene rest new fault
       → ((bs : List Known) → tracks_of bs ≡ rest → Ends [] bs new.book) → (bs : List Known) → tracks_of bs ≡ scene.tracks → Ends opened bs scene.state.book
   caused opened scene rest new fault (inl c) from bs are =
       unopened opened bs scene.state.book (on_book [] bs scene.state new c.1 (from bs (are ∙ sym c.0)))
@@ -231,18 +233,18 @@ module _ {J I O : Type 0} (P Q : Type 0) (h : Journals J) (received : I → Opti
   -- ---- records
 
   all_moved : (limit : ℕ) (names : List RecordName) (first opened : List (Opening I O)) (old new : Connector J) (before after : Option (List Done)) (tally : Tally) → AreApart names
-      → AllMoved received posted h base window limit names first old new before after tally → Ends opened [] new.book → Ends (first ++ opened) [] old.book
+      → AllMoved received posted h (keeping_at base) window limit names first old new before after tally → Ends opened [] new.book → Ends (first ++ opened) [] old.book
   all_moved limit names first opened old new before after tally apart all ends =
       moves_more all.moves.0 first opened all.done (at_start names old) (at_start [] new) all.moves.1 (λ bs are away. subst (λ (l : List Known). Ends opened l new.book) (sym (no_more bs are)) ends) [] refl apart
 
   part_moved : (limit : ℕ) (names : List RecordName) (opened : List (Opening I O)) (old new : Connector J) (fault : RunFault) → AreApart names
-      → PartMoved received posted h base window limit names opened old new fault → Ends [] [] new.book → Ends opened [] old.book
+      → PartMoved received posted h (keeping_at base) window limit names opened old new fault → Ends [] [] new.book → Ends opened [] old.book
   part_moved limit names opened old new fault apart part ends = broken part.breaks
     where
       looks : (bs : List Known) → tracks_of bs ≡ part.rest → Ends [] bs part.between.book
       looks bs are = looked part.rest [] part.between new part.looked ends bs are
 
-      broken : Breaks received posted h base window limit opened part.done (at_start names old) part.rest part.between fault → Ends opened [] old.book
+      broken : Breaks received posted h (keeping_at base) window limit opened part.done (at_start names old) part.rest part.between fault → Ends opened [] old.book
       broken (inl (s, never)) =
           on_streams opened (s.first ++ s.last) [] old.book s.opened_are
           (moves_more s.moves.0 s.first s.last part.done (at_start names old) s.between s.moves.1
@@ -260,7 +262,7 @@ module _ {J I O : Type 0} (P Q : Type 0) (h : Journals J) (received : I → Opti
   whole opened book last m = record { moves = m.moves; does = subst (λ waits. AbreastDoes h received posted base m.moves waits book last) m.fits m.does; streams = m.streams }
 
   abreast_moved : (limit : ℕ) (names : List RecordName) (opened : List (Opening I O)) (old new : Connector J) (before after : Option (List Done)) (result : Result Tally RunFault) → AreApart names
-      → PushesAbreast received posted h base window limit names opened old new before after result → Makes P Q h received posted base new.book opened [] old.book
+      → PushesAbreast received posted h (keeping_at base) window limit names opened old new before after result → Makes P Q h received posted base new.book opened [] old.book
   abreast_moved limit names opened old new before after (Ok tally) apart all =
       on_streams P Q h received posted base window new.book opened (opened ++ []) [] old.book (sym (append-nil opened))
       (all_moved P Q h received posted base window new.book limit names opened [] old new before after tally apart all (makes_end P Q h received posted base new.book))
@@ -268,7 +270,7 @@ module _ {J I O : Type 0} (P Q : Type 0) (h : Journals J) (received : I → Opti
       part_moved P Q h received posted base window new.book limit names opened old new fault apart part (makes_end P Q h received posted base new.book)
 
   both_moved : (limit : ℕ) (users groups : List RecordName) (opened : List (Opening I O)) (old new : Connector J) (before after : Option (List Done)) (result : Result Tally RunFault) → AreApart users → AreApart groups
-      → PushesBoth received posted h base window limit users groups opened old new before after result → Does opened old.book new.book
+      → PushesBoth received posted h (keeping_at base) window limit users groups opened old new before after result → Does opened old.book new.book
   both_moved limit users groups opened old new before after result apart away (inl b) = whole opened old.book new.book
       (on_streams P Q h received posted base window new.book opened (b.0 ++ b.1) [] old.book b.6
       (all_moved P Q h received posted base window new.book limit users b.0 b.1 old b.2 before b.3 b.4 apart b.7 (abreast_moved limit groups b.1 b.2 new b.3 after b.5 away b.8)))
@@ -283,7 +285,7 @@ module _ {J I O : Type 0} (P Q : Type 0) (h : Journals J) (received : I → Opti
       keys_apart book names (subst (λ (l : List RecordName). IsPermutation (keys book) l) (sym order.2) (parted (is_switched_off (book_of book)) (keys book) order.0 order.1.same))
 
   pub abreast_made : (limit : ℕ) (leavers_first : Bool) (opened : List (Opening I O)) (old new : Connector J) (before after : Option (List Done)) (result : Result Tally RunFault)
-      → PushesAllAbreast received posted h base window limit leavers_first opened old new before after result → Does opened old.book new.book
+      → PushesAllAbreast received posted h (keeping_at base) window limit leavers_first opened old new before after result → Does opened old.book new.book
   abreast_made limit leavers_first opened old new before after result (inl p) =
       let split = take-append-drop (prefix_len is_user p.0) p.0 in
       let apart : AreApart (users_of p.0 ++ groups_of p.0) = subst AreApart (sym split) (order_apart leavers_first old.book p.0 p.1) in

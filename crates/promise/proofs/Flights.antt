@@ -8,6 +8,7 @@ use Rattle.connector_core.specs.Asking.{asking}
 use Rattle.connector_core.specs.Maps.{BookMap, book_of}
 use Rattle.connector_core.specs.State.{State as Connector}
 use Rattle.connector_core.specs.declared.asking.Ask.TheVariants.{Send}
+use Rattle.connector_core.specs.declared.keeps.Keeps.TheVariants.{Revisions}
 use Rattle.provisioning.specs.Exchanges.{Becomes, Came, IsAsked, answer_in}
 use Rattle.provisioning.specs.Openings.{Opening}
 use Rattle.provisioning.specs.Tracks.{Begins, IsHeard, IsLearnt, IsReadFrom, IsSetOut, SetsOut}
@@ -26,6 +27,7 @@ use Rattle.promise.specs.Moves.{AreAmong, Asking, Move, Move.asks, Move.hears, s
 use Rattle.promise.proofs.Bags.{Holds, all_of, either_first, holds_first, with_of}
 use Rattle.promise.proofs.Calls.{unsent}
 use Rattle.provisioning.proofs.AskedLemmas.{asked_of}
+use Rattle.provisioning.specs.Services.{keeping_at}
 use Rattle.promise.proofs.Pushes.{among_skip}
 
 module _ {J I O : Type 0} (P Q : Type 0) (h : Journals J) (received : I → Option (List ℕ)) (posted : O → Option (List ℕ)) (base : List ℕ) (last : BookMap) where
@@ -33,7 +35,7 @@ module _ {J I O : Type 0} (P Q : Type 0) (h : Journals J) (received : I → Opti
 
   -- on which stream its request was sent, if one is under way
   abbrev pub SetOut : Track I O → Type 0
-  SetOut (UnderWay a f) = (stream : I × O) × IsSetOut posted base f.request stream f
+  SetOut (UnderWay a f) = (stream : I × O) × IsSetOut posted (keeping_at base) f.request stream f
   SetOut (Delayed a) = Unit {0}
   SetOut (IsDone a standing) = Unit {0}
 
@@ -134,7 +136,7 @@ module _ {J I O : Type 0} (P Q : Type 0) (h : Journals J) (received : I → Opti
   }
 
   spelled : (a : Account) (f : Flight I O) (set : SetOut (UnderWay a f)) (bs : List Begun) (opened : List (Opening I O)) (old new : Connector J) (came : Came) → IsFormed base (Asked f.request)
-      → IsAsked received posted base f.request set.0.0 set.0.1 (answer_in came) → Becomes h f.request came old new → Makes opened bs new.book → Makes opened ((UnderWay a f, set) ∷ bs) old.book
+      → IsAsked received posted (keeping_at base) f.request set.0.0 set.0.1 (answer_in came) → Becomes h Revisions f.request came old new → Makes opened bs new.book → Makes opened ((UnderWay a f, set) ∷ bs) old.book
   spelled a f set bs opened old new came formed asked becomes m =
       let e : Asking I O = (a.name, exchange_of f set.0 came) in
       record {
@@ -146,9 +148,9 @@ module _ {J I O : Type 0} (P Q : Type 0) (h : Journals J) (received : I → Opti
       }
 
   pub heard : (a : Account) (f : Flight I O) (set : SetOut (UnderWay a f)) (bs : List Begun) (opened : List (Opening I O)) (old new : Connector J) (result : Result (Option RecordFault) RunFault)
-      → IsLearnt received h f old new result → Makes opened bs new.book → Makes opened ((UnderWay a f, set) ∷ bs) old.book
+      → IsLearnt received h Revisions f old new result → Makes opened bs new.book → Makes opened ((UnderWay a f, set) ∷ bs) old.book
   heard a f set bs opened old new result learnt m =
-      let asked = asked_of received posted base f set.0 set.1 (answer_in learnt.came) learnt.heard in
+      let asked = asked_of received posted (keeping_at base) f set.0 set.1 (answer_in learnt.came) learnt.heard in
       elim (asked.spelled) [
         | inl none ↦ unspelled a f set bs opened old.book new.book (unsent h (text_of base f.request) f.request learnt.came (posted set.0.1) asked.written old new asked.sent none learnt.becomes) m
         | inr spells ↦ spelled a f set bs opened old new learnt.came spells asked learnt.becomes m
@@ -168,12 +170,12 @@ module _ {J I O : Type 0} (P Q : Type 0) (h : Journals J) (received : I → Opti
   fits_apart name (b ∷ bs) waits apart (rest, inr (e, of, holds), fits) =
       all_of (λ (e : Asking I O). e.0 ≢ name) e rest waits holds (λ same. apart.0 (sym (named_so b e of) ∙ same)) (fits_apart name bs rest apart.1 fits)
 
-  abbrev pub set_out : (a : Account) (opened : List (Opening I O)) (book : BookMap) (track : Track I O) → Begins posted base a opened (book_of book) track → SetOut track
+  abbrev pub set_out : (a : Account) (opened : List (Opening I O)) (book : BookMap) (track : Track I O) → Begins posted (keeping_at base) a opened (book_of book) track → SetOut track
   set_out a opened book (UnderWay later f) begins = (begins.stream, begins.set_out)
   set_out a opened book (Delayed later) begins = tt
   set_out a opened book (IsDone later standing) begins = tt
 
-  sent_one : (a later : Account) (f : Flight I O) (first opened : List (Opening I O)) (book : BookMap) (s : SetsOut posted base a first (book_of book) later f) (bs : List Begun) (rest waits : List (Asking I O)) (moves : List (Move I O P Q)) (came : Came)
+  sent_one : (a later : Account) (f : Flight I O) (first opened : List (Opening I O)) (book : BookMap) (s : SetsOut posted (keeping_at base) a first (book_of book) later f) (bs : List Begun) (rest waits : List (Asking I O)) (moves : List (Move I O P Q)) (came : Came)
       → IsFormed base (Asked f.request) → Holds (later.name, exchange_of f s.stream came) rest waits → AllByRecursion (λ (b : Begun). name_of b.0 ≢ a.name) bs → Fits bs rest
       → AbreastDoes h received posted base moves waits book last → AreAmong (streams_in moves) opened → Makes (first ++ opened) bs book
   sent_one a later f first opened book s bs rest waits moves came formed holds apart fits does streams =
@@ -193,7 +195,7 @@ module _ {J I O : Type 0} (P Q : Type 0) (h : Journals J) (received : I → Opti
       }
 
   -- a record is begun, or goes on
-  pub begun : (a : Account) (first opened : List (Opening I O)) (track : Track I O) (book : BookMap) (begins : Begins posted base a first (book_of book) track) (bs : List Begun)
+  pub begun : (a : Account) (first opened : List (Opening I O)) (track : Track I O) (book : BookMap) (begins : Begins posted (keeping_at base) a first (book_of book) track) (bs : List Begun)
       → AllByRecursion (λ (b : Begun). name_of b.0 ≢ a.name) bs → Makes opened ((track, set_out a first book track begins) ∷ bs) book → Makes (first ++ opened) bs book
   begun a first opened (UnderWay later f) book s bs apart m = elim (m.fits.1) [
     | inl same ↦ makes_skip first opened bs book (record {

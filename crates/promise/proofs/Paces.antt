@@ -15,6 +15,7 @@ use Rattle.provisioning.specs.declared.faults.RunFault.{RunFault}
 use Rattle.provisioning.specs.declared.offering.Judged.{Judged}
 use Rattle.provisioning.specs.declared.paces.Pace.{Pace}
 use Rattle.provisioning.specs.declared.sources.Sources.{Sources}
+use Rattle.provisioning.specs.Services.{keeping_at}
 use Rattle.promise.specs.Abreast.{AbreastDoes, IsPushAbreast}
 use Rattle.promise.specs.Moves.{AreAmong, Asking, IsPush, Move, Move.offers, Move.asks, Move.hears, Move.serves, PushDoes, rows_of_files, streams_in}
 use Rattle.promise.proofs.Abreast.{abreast_made}
@@ -67,7 +68,7 @@ module _ {J I O : Type 0} (P Q : Type 0) (h : Journals J) (received : I → Opti
   }
 
   pub pace_made : {T : Type 0} (heard : T → Option (List Judged)) (told : T → Option (List Done)) (pace : Pace) (sources : Sources) (opened : List (Opening I O)) (old new : Connector J) (before after : T)
-      (result : Result Outcome RunFault) → CarriesAt received posted h pace heard told base sources opened old new before after result
+      (result : Result Outcome RunFault) → CarriesAt received posted h pace heard told (keeping_at base) sources opened old new before after result
       → AllByRecursion IsRow (rows_of_files sources) → Makes opened old.book new.book
   pace_made heard told pace sources opened old new before after result carries all = elim carries [
     | inl c ↦ then_makes [] opened old.book c.0.book new.book

@@ -26,6 +26,7 @@ use Rattle.provisioning.specs.declared.pushing.Tally.{Tally}
 use Rattle.provisioning.specs.declared.records.Pushed.{Pushed}
 use Rattle.provisioning.specs.declared.sources.Source.{Source}
 use Rattle.provisioning.specs.declared.sources.Sources.{Sources}
+use Rattle.provisioning.specs.Services.{keeping_at}
 use Rattle.promise.specs.Moves.{AreAmong, Asking, IsPush, Move, Move.offers, Move.asks, Move.hears, Move.serves, PushDoes, rows_if, rows_of_files, streams_in}
 use Rattle.promise.proofs.Calls.{unsent}
 
@@ -89,7 +90,7 @@ module _ {J I O : Type 0} (P Q : Type 0) (h : Journals J) (received : I → Opti
 
   -- ---- exchanges
 
-  exchange_made : (name : RecordName) (e : Exchange I O) (old new : Connector J) → IsExchange received posted h base name e old new → Makes (opening_of e ∷ []) old.book new.book
+  exchange_made : (name : RecordName) (e : Exchange I O) (old new : Connector J) → IsExchange received posted h (keeping_at base) name e old new → Makes (opening_of e ∷ []) old.book new.book
   exchange_made name e old new is = elim (is.sent.spelled) [
     | inl none ↦ no_moves (opening_of e ∷ []) old.book new.book (unsent h (text_of base e.request) e.request e.came (posted e.writer) is.sent.written old new is.sent.sent none is.becomes)
     | inr spells ↦ record {
@@ -99,39 +100,39 @@ module _ {J I O : Type 0} (P Q : Type 0) (h : Journals J) (received : I → Opti
     }
   ]
 
-  exchanges_made : (name : RecordName) (es : List (Exchange I O)) (old new : Connector J) → AreExchanges received posted h base name es old new → Makes (openings_of es) old.book new.book
+  exchanges_made : (name : RecordName) (es : List (Exchange I O)) (old new : Connector J) → AreExchanges received posted h (keeping_at base) name es old new → Makes (openings_of es) old.book new.book
   exchanges_made name [] old new are = unchanged [] old new are
   exchanges_made name (e ∷ es) old new are =
       both (opening_of e ∷ []) (openings_of es) old.book are.0.book new.book (exchange_made name e old are.0 are.1) (exchanges_made name es are.0 new are.3)
 
-  record_made : (name : RecordName) (opened : List (Opening I O)) (old new : Connector J) (pushed : Pushed) → IsPushed received posted h base name opened old new pushed → Makes opened old.book new.book
+  record_made : (name : RecordName) (opened : List (Opening I O)) (old new : Connector J) (pushed : Pushed) → IsPushed received posted h (keeping_at base) name opened old new pushed → Makes opened old.book new.book
   record_made name opened old new pushed is = on_streams opened (openings_of is.exchanges) old.book new.book is.opened_are (exchanges_made name is.exchanges old new is.are)
 
-  ends_made : (name : RecordName) (opened : List (Opening I O)) (old new : Connector J) (fault : RunFault) → Ends received posted h base name opened old new fault → Makes opened old.book new.book
+  ends_made : (name : RecordName) (opened : List (Opening I O)) (old new : Connector J) (fault : RunFault) → Ends received posted h (keeping_at base) name opened old new fault → Makes opened old.book new.book
   ends_made name opened old new fault ends = elim ends [
     | inl made ↦ on_streams opened (opening_of made.0 ∷ []) old.book new.book made.1 (exchange_made name made.0 old new made.2)
     | inr unmade ↦ unchanged opened old new unmade.0
   ]
 
-  run_made : (name : RecordName) (opened : List (Opening I O)) (old new : Connector J) (fault : RunFault) → EndsRun received posted h base name opened old new fault → Makes opened old.book new.book
+  run_made : (name : RecordName) (opened : List (Opening I O)) (old new : Connector J) (fault : RunFault) → EndsRun received posted h (keeping_at base) name opened old new fault → Makes opened old.book new.book
   run_made name opened old new fault e =
       on_streams opened (openings_of e.exchanges ++ e.last) old.book new.book e.opened_are
       (both (openings_of e.exchanges) e.last old.book e.between.book new.book (exchanges_made name e.exchanges old e.between e.are) (ends_made name e.last e.between new fault e.ends))
 
   -- ---- records
 
-  done_made : (done : List Done) (opened : List (Opening I O)) (old new : Connector J) → AreDone received posted h base done opened old new → Makes opened old.book new.book
+  done_made : (done : List Done) (opened : List (Opening I O)) (old new : Connector J) → AreDone received posted h (keeping_at base) done opened old new → Makes opened old.book new.book
   done_made [] opened old new are = unchanged opened old new are.1
   done_made (d ∷ done) opened old new are =
       on_streams opened (are.0 ++ are.1) old.book new.book are.3
       (both are.0 are.1 old.book are.2.book new.book (record_made d.0 are.0 old are.2 d.1 are.4) (done_made done are.1 are.2 new are.5))
 
-  at_made : (names : List RecordName) (opened : List (Opening I O)) (old new : Connector J) (fault : RunFault) → EndsAt received posted h base names opened old new fault → Makes opened old.book new.book
+  at_made : (names : List RecordName) (opened : List (Opening I O)) (old new : Connector J) (fault : RunFault) → EndsAt received posted h (keeping_at base) names opened old new fault → Makes opened old.book new.book
   at_made [] opened old new fault ends = absurd ends
   at_made (name ∷ names) opened old new fault ends = run_made name opened old new fault ends
 
   each_made : (limit : ℕ) (names : List RecordName) (opened : List (Opening I O)) (old new : Connector J) (before after : Option (List Done)) (result : Result Tally RunFault)
-      → PushesEach received posted h base limit names opened old new before after result → Makes opened old.book new.book
+      → PushesEach received posted h (keeping_at base) limit names opened old new before after result → Makes opened old.book new.book
   each_made limit names opened old new before after (Ok tally) all = done_made all.done opened old new all.are
   each_made limit names opened old new before after (Err fault) part =
       on_streams opened (part.first ++ part.last) old.book new.book part.opened_are
@@ -144,7 +145,7 @@ module _ {J I O : Type 0} (P Q : Type 0) (h : Journals J) (received : I → Opti
       ]
 
   in_turn_made : (leavers_first : Bool) (limit : ℕ) (opened : List (Opening I O)) (old new : Connector J) (before after : Option (List Done)) (result : Result Tally RunFault)
-      → PushesInTurn received posted h base leavers_first limit opened old new before after result → Makes opened old.book new.book
+      → PushesInTurn received posted h (keeping_at base) leavers_first limit opened old new before after result → Makes opened old.book new.book
   in_turn_made leavers_first limit opened old new before after result pushes = elim pushes [
     | inl some ↦ each_made limit some.0 opened old new before after result some.2
     | inr none ↦ unchanged opened old new none.2
@@ -195,7 +196,7 @@ module _ {J I O : Type 0} (P Q : Type 0) (h : Journals J) (received : I → Opti
   -- ---- a push
 
   pub turn_made : {T : Type 0} (heard : T → Option (List Judged)) (told : T → Option (List Done)) (leavers_first : Bool) (limit : ℕ) (sources : Sources) (opened : List (Opening I O)) (old new : Connector J) (before after : T)
-      (result : Result Outcome RunFault) → CarriesBy (PushesInTurn received posted h base leavers_first limit) h heard told sources opened old new before after result
+      (result : Result Outcome RunFault) → CarriesBy (PushesInTurn received posted h (keeping_at base) leavers_first limit) h heard told sources opened old new before after result
       → AllByRecursion IsRow (rows_of_files sources) → Makes opened old.book new.book
   turn_made heard told leavers_first limit sources opened old new before after result carries all = elim carries [
     | inl c ↦ both [] opened old.book c.0.book new.book
@@ -205,6 +206,6 @@ module _ {J I O : Type 0} (P Q : Type 0) (h : Journals J) (received : I → Opti
   ]
 
   pub push_made : {T : Type 0} (heard : T → Option (List Judged)) (told : T → Option (List Done)) (sources : Sources) (opened : List (Opening I O)) (old new : Connector J) (before after : T)
-      (result : Result Outcome RunFault) → Carries received posted h heard told base sources opened old new before after result
+      (result : Result Outcome RunFault) → Carries received posted h heard told (keeping_at base) sources opened old new before after result
       → AllByRecursion IsRow (rows_of_files sources) → Makes opened old.book new.book
   push_made heard told sources opened old new before after result carries all = turn_made heard told false 0 sources opened old new before after result carries all

@@ -18,7 +18,7 @@ use Rattle.journal_core.specs.declared.journals.Journal.{Ghosts as Journals}
 use Rattle.connector_core.specs.Book.{Book}
 use Rattle.connector_core.specs.Learning.{Finding, Learning, Lesson, after_learning, finding, learn, lesson, or_fault, subject}
 use Rattle.connector_core.specs.Maps.{BookMap, book_of}
-use Rattle.connector_core.specs.Noting.{Note, note, noted_entries, noted_in}
+use Rattle.connector_core.specs.Noting.{Note, note_at, noted_entries, noted_in}
 use Rattle.connector_core.specs.State.{AreOf, IsOpened, LeavesBook, State as Connector, entry_of}
 use Rattle.connector_core.specs.declared.knowledge.Known.{Known}
 use Rattle.connector_core.specs.declared.learning.LearnFault.{LearnFault}
@@ -26,6 +26,7 @@ use Rattle.connector_core.specs.declared.learning.LearnFault.TheVariants.{NoSuch
 use Rattle.connector_core.specs.declared.learning.Learnt.{Learnt}
 use Rattle.connector_core.proofs.Keeping.{maps_are_books, names-put}
 use Rattle.connector_core.proofs.Lessons.{again, learns_by_notes}
+use Rattle.connector_core.specs.declared.keeps.Keeps.TheVariants.{Revisions}
 use Rattle.provisioning.specs.Exchanges.{Becomes, Came, Learns, answered, lost, answer_in}
 use Rattle.world_model.specs.Safe.{Has}
 use Rattle.promise.specs.Abreast.{AreOver, FlightsAreExchanges, IsOver, ReopeningAfterSeveral}
@@ -34,6 +35,7 @@ use Rattle.promise.specs.Moves.{Asking}
 use Rattle.promise.specs.Traces.{LeavesBook as LeavesTaught, State, Step, Step.hears, Step.reopens, Trace, Trace.here, Trace.next}
 use Rattle.promise.proofs.Calls.{carried}
 use Rattle.provisioning.proofs.AskedLemmas.{asked_of}
+use Rattle.provisioning.specs.Services.{keeping_at}
 
 -- ---- what is noted is noted of a record of the book
 
@@ -52,7 +54,7 @@ note_named : (name : RecordName) (l : Lesson) (n : Note) → one_note name l ≡
 note_named name l n is =
     let same : record { name = name; lesson = l } ≡ n = cc in ap (λ (x : Note). x.name) same
 
-noted_there : (book : Book) (request : Request) (answer : Answer) (n : Note) → note book request answer ≡ Ok n → (known : Known) × (book n.name ≡ Some known)
+noted_there : (book : Book) (request : Request) (answer : Answer) (n : Note) → note_at Revisions book request answer ≡ Ok n → (known : Known) × (book n.name ≡ Some known)
 noted_there book request answer n is =
     let said : RecordName → Known → Finding → Result Note LearnFault = λ name known f. lesson book name known f >>= one_note name in
     let known : RecordName → Known → Result Note LearnFault = λ name k. finding request answer >>= said name k in
@@ -75,7 +77,7 @@ put_so kept book name old known is are = record {
   listed = names-put kept name (entry_of known) ∙ ap (λ (names : List RecordName). insert_key name_cmp names name) are.listed ∙ sym (names-put book name old) ∙ ap keys (again book name old is);
 }
 
-noted_so : (kept : EntryMap) (book : BookMap) (request : Request) (answer : Answer) (r : Result Note LearnFault) → note (book_of book) request answer ≡ r → AreOf kept (book_of book) (keys book)
+noted_so : (kept : EntryMap) (book : BookMap) (request : Request) (answer : Answer) (r : Result Note LearnFault) → note_at Revisions (book_of book) request answer ≡ r → AreOf kept (book_of book) (keys book)
     → AreOf (noted_entries kept r) (after_learning (book_of book) (noted_in (book_of book) r)) (keys book)
 noted_so kept book request answer (Ok n) is are =
     let old = noted_there (book_of book) request answer n is in
@@ -83,17 +85,17 @@ noted_so kept book request answer (Ok n) is are =
 noted_so kept book request answer (Err fault) is are = are
 
 taught : (kept : EntryMap) (book : BookMap) (request : Request) (answer : Answer) → AreOf kept (book_of book) (keys book)
-    → AreOf (noted_entries kept (note (book_of book) request answer)) (after_learning (book_of book) (learn (book_of book) request answer)) (keys book)
+    → AreOf (noted_entries kept (note_at Revisions (book_of book) request answer)) (after_learning (book_of book) (learn (book_of book) request answer)) (keys book)
 taught kept book request answer are =
-    subst (λ (r : Result Learning LearnFault). AreOf (noted_entries kept (note (book_of book) request answer)) (after_learning (book_of book) r) (keys book)) (sym (learns_by_notes (book_of book) request answer))
-    (noted_so kept book request answer (note (book_of book) request answer) refl are)
+    subst (λ (r : Result Learning LearnFault). AreOf (noted_entries kept (note_at Revisions (book_of book) request answer)) (after_learning (book_of book) r) (keys book)) (sym (learns_by_notes Revisions (book_of book) request answer))
+    (noted_so kept book request answer (note_at Revisions (book_of book) request answer) refl are)
 
 -- ---- one exchange after another
 
 module _ {R J I O P Q : Type 0} (g : Registries R) (h : Journals J) (received : I → Option (List ℕ)) (posted : O → Option (List ℕ)) (remaining : P → Option (List ℕ)) (contents : Q → Option (List ℕ)) where
   pub flights_are_exchanges : FlightsAreExchanges g h received posted remaining contents
   flights_are_exchanges base name stream f before after result set learnt =
-      (learnt.came, record { sent = asked_of received posted base f stream set (answer_in learnt.came) learnt.heard; becomes = learnt.becomes })
+      (learnt.came, record { sent = asked_of received posted (keeping_at base) f stream set (answer_in learnt.came) learnt.heard; becomes = learnt.becomes })
 
   module _ (base : List ℕ) (mid : State) where
     abbrev Leads : BookMap → Type 0
@@ -117,7 +119,7 @@ module _ {R J I O P Q : Type 0} (g : Registries R) (h : Journals J) (received : 
           leaves = λ found may book opened. next trace (reopens found book (left found may) opened);
         }
 
-    learnt_held : (s t : Connector J) (request : Request) (answer : Answer) (learnt : Result Learnt LearnFault) → Learns h request answer learnt s t → Stands s → h.is_faithful t.journal
+    learnt_held : (s t : Connector J) (request : Request) (answer : Answer) (learnt : Result Learnt LearnFault) → Learns h Revisions request answer learnt s t → Stands s → h.is_faithful t.journal
         → AreOf (h.entries t.journal) (book_of t.book) (keys t.book)
     learnt_held s t request answer (Ok said) learns stands faithful =
         subst (λ (names : List RecordName). AreOf (h.entries t.journal) (book_of t.book) names) (sym learns.names)
@@ -144,7 +146,7 @@ module _ {R J I O P Q : Type 0} (g : Registries R) (h : Journals J) (received : 
         from = carried received mid.written e.1.request e.1.reader over.sent.left e.1.came over.sent.read brings;
       })
 
-      stands_more : (came : Came) → e.1.came ≡ came → IsOver h received posted base e s t → Becomes h e.1.request came s t → h.is_honest t.journal → Stands s → Stands t
+      stands_more : (came : Came) → e.1.came ≡ came → IsOver h received posted base e s t → Becomes h Revisions e.1.request came s t → h.is_honest t.journal → Stands s → Stands t
       stands_more (lost fault) is over same honest stands = subst Stands (sym same) stands
       stands_more (answered answer learnt) is over learns honest stands = record {
         trace = next stands.trace (over_to over t.book (inl refl));
@@ -163,7 +165,7 @@ module _ {R J I O P Q : Type 0} (g : Registries R) (h : Journals J) (received : 
         ];
       }
 
-    honest_more : (request : Request) (came : Came) (s t : Connector J) → Becomes h request came s t → h.is_honest t.journal → h.is_honest s.journal
+    honest_more : (request : Request) (came : Came) (s t : Connector J) → Becomes h Revisions request came s t → h.is_honest t.journal → h.is_honest s.journal
     honest_more request (lost fault) s t same honest = subst (λ (c : Connector J). h.is_honest c.journal) same honest
     honest_more request (answered answer learnt) s t learns honest = learns.journal.honest honest
 

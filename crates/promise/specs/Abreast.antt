@@ -15,6 +15,7 @@ use Rattle.connector_core.specs.Changing.{taking}
 use Rattle.connector_core.specs.Maps.{BookMap, book_of}
 use Rattle.connector_core.specs.State.{IsOpened, LeavesBook, State as Connector}
 use Rattle.connector_core.specs.declared.asking.Ask.TheVariants.{Send}
+use Rattle.connector_core.specs.declared.keeps.Keeps.TheVariants.{Revisions}
 use Rattle.provisioning.specs.Carrying.{CarriesAt, CarriesBy}
 use Rattle.provisioning.specs.Exchanges.{Becomes, Came, Exchange, IsAsked, answer_in}
 use Rattle.provisioning.specs.Openings.{Opening}
@@ -29,6 +30,7 @@ use Rattle.provisioning.specs.declared.offering.Judged.{Judged}
 use Rattle.provisioning.specs.declared.paces.Pace.{Pace}
 use Rattle.provisioning.specs.declared.sources.Sources.{Sources}
 use Rattle.provisioning.specs.declared.tracks.Flight.{Flight}
+use Rattle.provisioning.specs.Services.{keeping_at}
 use Rattle.world_model.specs.Safe.{Has}
 use Rattle.world_model.specs.World.{Asked}
 use Rattle.world_sim.specs.Fitting.{IsFormed}
@@ -48,8 +50,8 @@ exchange_of f stream came =
 -- An exchange is over: its request was sent on its stream, and the connector learns from what came there
 pub record IsOver {J I O : Type 0} (h : Journals J) (received : I → Option (List ℕ)) (posted : O → Option (List ℕ))
     (base : List ℕ) (e : Asking I O) (before after : Connector J) : Type 0 where
-  pub sent : IsAsked received posted base e.1.request e.1.reader e.1.writer (answer_in e.1.came)
-  pub becomes : Becomes h e.1.request e.1.came before after
+  pub sent : IsAsked received posted (keeping_at base) e.1.request e.1.reader e.1.writer (answer_in e.1.came)
+  pub becomes : Becomes h Revisions e.1.request e.1.came before after
 
 module _ {J I O P Q : Type 0} (h : Journals J) (received : I → Option (List ℕ)) (posted : O → Option (List ℕ))
     (base : List ℕ) where
@@ -102,8 +104,8 @@ module _ {R J I O P Q : Type 0} (g : Registries R) (h : Journals J) (received : 
   abbrev pub FlightsAreExchanges : Type 0
   FlightsAreExchanges =
       (base : List ℕ) (name : RecordName) (stream : I × O) (f : Flight I O) (before after : Connector J)
-      (result : Result (Option RecordFault) RunFault) → IsSetOut posted base f.request stream f
-      → IsLearnt received h f before after result
+      (result : Result (Option RecordFault) RunFault) → IsSetOut posted (keeping_at base) f.request stream f
+      → IsLearnt received h Revisions f before after result
       → (came : Came) × IsOver h received posted base (name, exchange_of f stream came) before after
 
   -- The connector is opened again after exchanges that were under way at once, whether or not one of them failed and
@@ -125,7 +127,8 @@ module _ {R J I O P Q : Type 0} (g : Registries R) (h : Journals J) (received : 
     PushesInTurnAreMoves =
         (base : List ℕ) (leavers_first : Bool) (limit : ℕ) (sources : Sources) (opened : List (Opening I O))
         (old new : Connector J) (before after : T) (result : Result Outcome RunFault)
-        → CarriesBy (PushesInTurn received posted h base leavers_first limit) h heard told sources opened old new
+        → CarriesBy (PushesInTurn received posted h (keeping_at base) leavers_first limit) h heard told sources opened
+        old new
         before after result
         → AllByRecursion IsRow (rows_of_files sources) → IsPush P Q h received posted base opened old.book new.book
 
@@ -135,7 +138,7 @@ module _ {R J I O P Q : Type 0} (g : Registries R) (h : Journals J) (received : 
     PushesAtPacesAreMoves =
         (base : List ℕ) (pace : Pace) (sources : Sources) (opened : List (Opening I O)) (old new : Connector J)
         (before after : T) (result : Result Outcome RunFault)
-        → CarriesAt received posted h pace heard told base sources opened old new before after result
+        → CarriesAt received posted h pace heard told (keeping_at base) sources opened old new before after result
         → AllByRecursion IsRow (rows_of_files sources)
         → IsPushAbreast P Q h received posted base opened old.book new.book
 
@@ -145,7 +148,7 @@ module _ {R J I O P Q : Type 0} (g : Registries R) (h : Journals J) (received : 
         (base : List ℕ) (pace : Pace) (sources : Sources) (opened : List (Opening I O)) (old new : Connector J)
         (before after : T) (outcome : Result Outcome RunFault) (first last : L) (store kept : R) (count : ℕ)
         (result : Result (Unit {0}) ConnectionFault)
-        → CarriesAt received posted h pace heard told base sources opened old new before after outcome
+        → CarriesAt received posted h pace heard told (keeping_at base) sources opened old new before after outcome
         → AllByRecursion IsRow (rows_of_files sources)
         → ServesTurns waiting remaining contents g base first last store kept count result
         → g.is_faithful kept → AreKnown contents

@@ -16,6 +16,7 @@ use Rattle.connector_core.specs.Changing.{taking}
 use Rattle.connector_core.specs.Maps.{BookMap, book_of}
 use Rattle.connector_core.specs.State.{State as Connector}
 use Rattle.connector_core.specs.declared.asking.Ask.TheVariants.{Send}
+use Rattle.connector_core.specs.declared.keeps.Keeps.TheVariants.{Revisions}
 use Rattle.provisioning.specs.Carrying.{Carries}
 use Rattle.provisioning.specs.Exchanges.{Becomes, IsAsked, answer_in}
 use Rattle.provisioning.specs.Openings.{Opening}
@@ -24,6 +25,7 @@ use Rattle.provisioning.specs.declared.carrying.Outcome.{Outcome}
 use Rattle.provisioning.specs.declared.faults.RunFault.{RunFault}
 use Rattle.provisioning.specs.declared.offering.Judged.{Judged}
 use Rattle.provisioning.specs.declared.sources.Sources.{Sources}
+use Rattle.provisioning.specs.Services.{keeping_at}
 use Rattle.world_model.specs.World.{Asked}
 use Rattle.world_model.specs.Invariant.{Names}
 use Rattle.world_model.specs.Safe.{Has}
@@ -50,8 +52,9 @@ module _ {J I O P Q : Type 0} (h : Journals J) (received : I → Option (List �
   ConnectorDoes (hears e ∷ moves) sent book last =
       Has sent e.1.request
       × ((before : Connector J) × (after : Connector J)
-      × IsAsked received posted base e.1.request e.1.reader e.1.writer (answer_in e.1.came)
-      × Becomes h e.1.request e.1.came before after × (before.book ≡ book) × ConnectorDoes moves sent after.book last)
+      × IsAsked received posted (keeping_at base) e.1.request e.1.reader e.1.writer (answer_in e.1.came)
+      × Becomes h Revisions e.1.request e.1.came before after × (before.book ≡ book)
+      × ConnectorDoes moves sent after.book last)
   ConnectorDoes (serves c ∷ moves) sent book last = ⊥
 
 -- ---- what the network does
@@ -118,7 +121,7 @@ module _ {R J I O P Q : Type 0} (g : Registries R) (h : Journals J) (received : 
         (base : List ℕ) (sources : Sources) (opened : List (Opening I O)) (old new : Connector J) (before after : T)
         (outcome : Result Outcome RunFault) (first last : L) (store kept : R) (count : ℕ)
         (result : Result (Unit {0}) ConnectionFault)
-        → Carries received posted h heard told base sources opened old new before after outcome
+        → Carries received posted h heard told (keeping_at base) sources opened old new before after outcome
         → AllByRecursion IsRow (rows_of_files sources)
         → ServesTurns waiting remaining contents g base first last store kept count result
         → g.is_faithful kept → AreKnown contents

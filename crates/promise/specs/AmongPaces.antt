@@ -18,6 +18,7 @@ use Rattle.provisioning.specs.declared.faults.RunFault.{RunFault}
 use Rattle.provisioning.specs.declared.offering.Judged.{Judged}
 use Rattle.provisioning.specs.declared.paces.Pace.{Pace}
 use Rattle.provisioning.specs.declared.sources.Sources.{Sources}
+use Rattle.provisioning.specs.Services.{keeping_at}
 use Rattle.world_model.specs.Invariant.{Names}
 use Rattle.promise.specs.Abreast.{AbreastDoes, IsPushAbreast}
 use Rattle.promise.specs.AmongMoves.{ConnectorDoes, DeliversAmong, ReachesAmong}
@@ -41,7 +42,7 @@ module _ {R J I O P Q : Type 0} (g : Registries R) (h : Journals J) (received : 
         (base : List ℕ) (pace : Pace) (sources : Sources) (opened : List (Opening I O)) (old new : Connector J)
         (before after : T) (outcome : Result Outcome RunFault) (first last : L) (store kept : R) (count : ℕ)
         (result : Result (Unit {0}) ConnectionFault)
-        → CarriesAt received posted h pace heard told base sources opened old new before after outcome
+        → CarriesAt received posted h pace heard told (keeping_at base) sources opened old new before after outcome
         → AllByRecursion IsRow (rows_of_files sources)
         → ServesTurns waiting remaining contents g base first last store kept count result
         → g.is_faithful kept → AreKnown contents

@@ -28,6 +28,7 @@ use Rattle.provisioning.specs.declared.faults.RunFault.{RunFault}
 use Rattle.provisioning.specs.declared.offering.Judged.{Judged}
 use Rattle.provisioning.specs.declared.sources.Source.{Source}
 use Rattle.provisioning.specs.declared.sources.Sources.{Sources}
+use Rattle.provisioning.specs.Services.{keeping_at}
 use Rattle.world_model.specs.World.{Asked}
 use Rattle.world_sim.specs.Fitting.{IsFormed}
 use Rattle.promise.specs.Calls.{BringsReply, BringsRequest, HoldsMore}
@@ -102,8 +103,8 @@ module _ {J I O P Q : Type 0} (h : Journals J) (received : I → Option (List �
   PushDoes (hears e ∷ moves) None book last = ⊥
   PushDoes (hears e ∷ moves) (Some f) book last =
       (e ≡ f)
-      × ((before : Connector J) × (after : Connector J) × IsExchange received posted h base e.0 e.1 before after
-      × (before.book ≡ book) × PushDoes moves None after.book last)
+      × ((before : Connector J) × (after : Connector J)
+      × IsExchange received posted h (keeping_at base) e.0 e.1 before after × (before.book ≡ book) × PushDoes moves None after.book last)
   PushDoes (serves c ∷ moves) waits book last = ⊥
 
 -- one connection, from these rows to those that the next one finds
@@ -196,7 +197,7 @@ module _ {R J I O P Q : Type 0} (g : Registries R) (h : Journals J) (received : 
     PushesAreMoves =
         (base : List ℕ) (sources : Sources) (opened : List (Opening I O)) (old new : Connector J) (before after : T)
         (result : Result Outcome RunFault)
-        → Carries received posted h heard told base sources opened old new before after result
+        → Carries received posted h heard told (keeping_at base) sources opened old new before after result
         → AllByRecursion IsRow (rows_of_files sources) → IsPush P Q h received posted base opened old.book new.book
 
     -- The turns of a listener are such moves, one for each connection that it took
@@ -214,7 +215,7 @@ module _ {R J I O P Q : Type 0} (g : Registries R) (h : Journals J) (received : 
         (base : List ℕ) (sources : Sources) (opened : List (Opening I O)) (old new : Connector J) (before after : T)
         (outcome : Result Outcome RunFault) (first last : L) (store kept : R) (count : ℕ)
         (result : Result (Unit {0}) ConnectionFault)
-        → Carries received posted h heard told base sources opened old new before after outcome
+        → Carries received posted h heard told (keeping_at base) sources opened old new before after outcome
         → AllByRecursion IsRow (rows_of_files sources)
         → ServesTurns waiting remaining contents g base first last store kept count result
         → g.is_faithful kept → AreKnown contents

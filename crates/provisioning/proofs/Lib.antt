@@ -1,4 +1,5 @@
 mod ListLemmas
+mod ServiceLemmas
 mod OnwardLemmas
 mod RestLemmas
 mod RunLemmas

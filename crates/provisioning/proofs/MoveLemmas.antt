@@ -2,8 +2,10 @@
 use Rattle.std.proofs.Common.{◌<◌, ℕ, suc, length, List, [], ◌∷◌, ◌++◌, map, Option, inl, inr, refl, ap, sym, ◌∙◌, subst, append_assoc, append-nil, arith}
 use Rattle.journal_core.specs.declared.journals.Journal.{Ghosts}
 use Rattle.connector_core.specs.State.{State}
+use Rattle.connector_core.specs.declared.keeps.Keeps.{Keeps}
 use Rattle.provisioning.specs.Openings.{Opening}
 use Rattle.provisioning.specs.Runs.{Done}
+use Rattle.provisioning.specs.Services.{Service}
 use Rattle.provisioning.specs.Tracks.{faulted, put_off}
 use Rattle.provisioning.specs.Windows.{AreMoves, Causes, IsMove, IsWith, LooksThrough, Moves, Point, Scene, Stops, with_first}
 use Rattle.provisioning.specs.declared.faults.RunFault.{RunFault}
@@ -21,23 +23,23 @@ with_back x xs = (xs, [], refl, sym (append-nil xs))
 pub with_after : {X : Type 0} (x y : X) (others all : List X) → IsWith x others all → IsWith x (y ∷ others) (y ∷ all)
 with_after x y others all w = (y ∷ w.0, w.1, ap (λ xs. y ∷ xs) w.2, ap (λ xs. y ∷ xs) w.3)
 
-module _ {I O J : Type 0} (remaining : I → Option (List ℕ)) (contents : O → Option (List ℕ)) (g : Ghosts J) (base : List ℕ) (window : ℕ) where
+module _ {I O J : Type 0} (remaining : I → Option (List ℕ)) (contents : O → Option (List ℕ)) (g : Ghosts J) (service : Service) (window : ℕ) where
   -- ---- moves after moves
 
-  pub no_moves : (scene : Scene I O J) → Moves remaining contents g base window [] [] scene scene
+  pub no_moves : (scene : Scene I O J) → Moves remaining contents g service window [] [] scene scene
   no_moves scene = ([], (refl, refl, refl))
 
-  pub one_move : (opened : List (Opening I O)) (told : List Done) (old new : Scene I O J) → IsMove remaining contents g base window opened told old new → Moves remaining contents g base window opened told old new
+  pub one_move : (opened : List (Opening I O)) (told : List Done) (old new : Scene I O J) → IsMove remaining contents g service window opened told old new → Moves remaining contents g service window opened told old new
   one_move opened told old new move =
       (record { opened = opened; told = told; scene = new } ∷ [], ([], [], sym (append-nil opened), sym (append-nil told), move, (refl, refl, refl)))
 
   are_more : (ps qs : List (Point I O J)) (first then : List (Opening I O)) (told more : List Done) (old between new : Scene I O J)
-      → AreMoves remaining contents g base window ps first told old between → AreMoves remaining contents g base window qs then more between new
-      → AreMoves remaining contents g base window (ps ++ qs) (first ++ then) (told ++ more) old new
+      → AreMoves remaining contents g service window ps first told old between → AreMoves remaining contents g service window qs then more between new
+      → AreMoves remaining contents g service window (ps ++ qs) (first ++ then) (told ++ more) old new
   are_more [] qs first then told more old between new (a, b, c) q =
-      subst (λ (s : Scene I O J). AreMoves remaining contents g base window qs (first ++ then) (told ++ more) s new) c
-      (subst (λ (o : List (Opening I O)). AreMoves remaining contents g base window qs (o ++ then) (told ++ more) between new) (sym a)
-      (subst (λ (t : List Done). AreMoves remaining contents g base window qs then (t ++ more) between new) (sym b) q))
+      subst (λ (s : Scene I O J). AreMoves remaining contents g service window qs (first ++ then) (told ++ more) s new) c
+      (subst (λ (o : List (Opening I O)). AreMoves remaining contents g service window qs (o ++ then) (told ++ more) between new) (sym a)
+      (subst (λ (t : List Done). AreMoves remaining contents g service window qs then (t ++ more) between new) (sym b) q))
   are_more (p ∷ ps) qs first then told more old between new m q = (
     m.0 ++ then,
     m.1 ++ more,
@@ -48,13 +50,13 @@ module _ {I O J : Type 0} (remaining : I → Option (List ℕ)) (contents : O �
   )
 
   pub moves_more : (first then : List (Opening I O)) (told more : List Done) (old between new : Scene I O J)
-      → Moves remaining contents g base window first told old between → Moves remaining contents g base window then more between new
-      → Moves remaining contents g base window (first ++ then) (told ++ more) old new
+      → Moves remaining contents g service window first told old between → Moves remaining contents g service window then more between new
+      → Moves remaining contents g service window (first ++ then) (told ++ more) old new
   moves_more first then told more old between new (ps, p) (qs, q) = (ps ++ qs, are_more ps qs first then told more old between new p q)
 
   pub stops_more : (first then : List (Opening I O)) (told more : List Done) (old between : Scene I O J) (rest : List (Track I O)) (new : State J) (fault : RunFault)
-      → Moves remaining contents g base window first told old between → Stops remaining contents g base window then more between rest new fault
-      → Stops remaining contents g base window (first ++ then) (told ++ more) old rest new fault
+      → Moves remaining contents g service window first told old between → Stops remaining contents g service window then more between rest new fault
+      → Stops remaining contents g service window (first ++ then) (told ++ more) old rest new fault
   stops_more first then told more old between rest new fault m s = record {
     first = first ++ s.first;
     last = s.last;
@@ -66,7 +68,7 @@ module _ {I O J : Type 0} (remaining : I → Option (List ℕ)) (contents : O �
 
   -- a fault at once
   pub stops_here : (opened : List (Opening I O)) (scene : Scene I O J) (rest : List (Track I O)) (new : State J) (fault : RunFault)
-      → Causes remaining contents g base window opened scene rest new fault → Stops remaining contents g base window opened [] scene rest new fault
+      → Causes remaining contents g service window opened scene rest new fault → Stops remaining contents g service window opened [] scene rest new fault
   stops_here opened scene rest new fault causes = record {
     first = [];
     last = opened;
@@ -81,9 +83,9 @@ module _ {I O J : Type 0} (remaining : I → Option (List ℕ)) (contents : O �
 more_room : (count room window : ℕ) → room < window → count < room → suc count < window
 more_room count room window less here = omega (arith, less, here)
 
-module _ {I O J : Type 0} (remaining : I → Option (List ℕ)) (contents : O → Option (List ℕ)) (g : Ghosts J) (base : List ℕ) (room window : ℕ) (less : room < window) where
+module _ {I O J : Type 0} (remaining : I → Option (List ℕ)) (contents : O → Option (List ℕ)) (g : Ghosts J) (service : Service) (room window : ℕ) (less : room < window) where
   move_beside : (track : Track I O) (opened : List (Opening I O)) (told : List Done) (old new : Scene I O J)
-      → IsMove remaining contents g base room opened told old new → IsMove remaining contents g base window opened told (with_first track old) (with_first track new)
+      → IsMove remaining contents g service room opened told old new → IsMove remaining contents g service window opened told (with_first track old) (with_first track new)
   move_beside track opened told old new (inl b) = inl (record {
     name = b.name;
     track = b.track;
@@ -155,27 +157,27 @@ module _ {I O J : Type 0} (remaining : I → Option (List ℕ)) (contents : O �
   beside track p = record { opened = p.opened; told = p.told; scene = with_first track p.scene }
 
   are_beside : (track : Track I O) (ps : List (Point I O J)) (opened : List (Opening I O)) (told : List Done) (old new : Scene I O J)
-      → AreMoves remaining contents g base room ps opened told old new
-      → AreMoves remaining contents g base window (map (beside track) ps) opened told (with_first track old) (with_first track new)
+      → AreMoves remaining contents g service room ps opened told old new
+      → AreMoves remaining contents g service window (map (beside track) ps) opened told (with_first track old) (with_first track new)
   are_beside track [] opened told old new (a, b, c) = (a, b, ap (with_first track) c)
   are_beside track (p ∷ ps) opened told old new m =
       (m.0, m.1, m.2, m.3, move_beside track p.opened p.told old p.scene m.4, are_beside track ps m.0 m.1 p.scene new m.5)
 
   pub moves_beside : (track : Track I O) (opened : List (Opening I O)) (told : List Done) (old new : Scene I O J)
-      → Moves remaining contents g base room opened told old new
-      → Moves remaining contents g base window opened told (with_first track old) (with_first track new)
+      → Moves remaining contents g service room opened told old new
+      → Moves remaining contents g service window opened told (with_first track old) (with_first track new)
   moves_beside track opened told old new (ps, m) = (map (beside track) ps, are_beside track ps opened told old new m)
 
   causes_beside : (track : Track I O) (last : List (Opening I O)) (scene : Scene I O J) (rest : List (Track I O)) (new : State J) (fault : RunFault)
-      → Causes remaining contents g base room last scene rest new fault → Causes remaining contents g base window last (with_first track scene) (track ∷ rest) new fault
+      → Causes remaining contents g service room last scene rest new fault → Causes remaining contents g service window last (with_first track scene) (track ∷ rest) new fault
   causes_beside track last scene rest new fault (inl (same, still, u)) =
       inl (ap (λ xs. track ∷ xs) same, still, record { room = more_room (length scene.tracks) room window less u.room; unmade = u.unmade; waits = u.waits })
   causes_beside track last scene rest new fault (inr (inl c)) = inr (inl (c.0, with_after c.0 track rest scene.tracks c.1, c.2))
   causes_beside track last scene rest new fault (inr (inr c)) = inr (inr (c.0, c.1, with_after (IsDone c.0 c.1) track rest scene.tracks c.2, c.3, c.4, c.5))
 
   pub stops_beside : (track : Track I O) (opened : List (Opening I O)) (told : List Done) (old : Scene I O J) (rest : List (Track I O)) (new : State J) (fault : RunFault)
-      → Stops remaining contents g base room opened told old rest new fault
-      → Stops remaining contents g base window opened told (with_first track old) (track ∷ rest) new fault
+      → Stops remaining contents g service room opened told old rest new fault
+      → Stops remaining contents g service window opened told (with_first track old) (track ∷ rest) new fault
   stops_beside track opened told old rest new fault s = record {
     first = s.first;
     last = s.last;
@@ -187,8 +189,8 @@ module _ {I O J : Type 0} (remaining : I → Option (List ℕ)) (contents : O �
 
 -- ---- looking through
 
-module _ {I O J : Type 0} (remaining : I → Option (List ℕ)) (g : Ghosts J) where
+module _ {I O J : Type 0} (remaining : I → Option (List ℕ)) (g : Ghosts J) (keeps : Keeps) where
   pub looks_more : (front back : List (Track I O)) (old between new : State J)
-      → LooksThrough remaining g front old between → LooksThrough remaining g back between new → LooksThrough remaining g (front ++ back) old new
-  looks_more [] back old between new a b = subst (λ (s : State J). LooksThrough remaining g back s new) a b
+      → LooksThrough remaining g keeps front old between → LooksThrough remaining g keeps back between new → LooksThrough remaining g keeps (front ++ back) old new
+  looks_more [] back old between new a b = subst (λ (s : State J). LooksThrough remaining g keeps back s new) a b
   looks_more (track ∷ front) back old between new a b = (a.0, a.1, a.2, looks_more front back a.1 between new a.3 b)

@@ -4,22 +4,27 @@ use Rattle.std.specs.Option.{option_map}
 use Rattle.scim_key.proofs.RecordLaws.{same as same_names}
 use Rattle.scim_key.proofs.RevisionLaws.{later_above_first, reflexive_up_to, transitive_up_to}
 use Rattle.scim_key.specs.Outcome.{◌>>=◌}
-use Rattle.scim_key.specs.Revisions.{◌≼◌}
+use Rattle.scim_key.specs.Revisions.{no_revision, ◌≼◌}
 use Rattle.scim_key.specs.declared.records.RecordName.{RecordName}
 use Rattle.scim_message.specs.declared.messages.Answer.{Answer}
 use Rattle.scim_message.specs.declared.messages.Request.{Request}
 use Rattle.journal_core.specs.declared.journals.Journal.{Ghosts}
+use Rattle.scim_resource.specs.Contents.{content_name}
 use Rattle.scim_resource.specs.Rows.{ShownRecord}
+use Rattle.scim_resource.specs.declared.contents.Content.{Content}
 use Rattle.source_csv.specs.Records.{row_revision}
 use Rattle.connector_core.specs.History.{same_name}
 use Rattle.connector_core.specs.Book.{Book, confirmed_if, confirmed_of, put, wanted_row}
-use Rattle.connector_core.specs.Learning.{Finding, Shows, Shows_none, Taken, Stale, Learning, Lesson, absent, after_learning, agreeing, compared, differing, finding, fit, fit_differing, forgetting, is_absent, is_under, is_wanted, learn, lesson, none_sighted, noted, nothing_new, or_fault, sighted, subject}
+use Rattle.connector_core.specs.Keeps.{carried, lesson_at, learn_at, says, standing_for, unshown_lesson}
+use Rattle.connector_core.specs.Learning.{Finding, Shows, Shows_none, Taken, Stale, Learning, Lesson, Sight, absent, after_learning, agreeing, compared, differing, fault_unless, finding, fit, fit_differing, forgetting, is_absent, is_under, is_wanted, lesson, none_sighted, noted, nothing_new, or_fault, shown_lesson, sighted, subject}
 use Rattle.connector_core.specs.Maps.{BookMap, book_of}
 use Rattle.connector_core.specs.State.{State}
 use Rattle.connector_core.specs.declared.knowledge.Known.{Known}
 use Rattle.connector_core.specs.declared.learning.LearnFault.{LearnFault}
 use Rattle.connector_core.specs.declared.learning.LearnFault.TheVariants.{NoSuchRecord, Unfit, Unversioned}
 use Rattle.connector_core.specs.declared.learning.Learnt.{Learnt}
+use Rattle.connector_core.specs.declared.keeps.Keeps.{Keeps}
+use Rattle.connector_core.specs.declared.keeps.Keeps.TheVariants.{Revisions, Versions}
 use Rattle.provisioning.specs.Exchanges.{Becomes, Came, Learns, answered, lost}
 use Rattle.provisioning.specs.Onward.{Onward}
 
@@ -86,6 +91,25 @@ lesson_goes book name known (Stale if_match) l is =
     let same : forgetting (is_under if_match known.seen) known ≡ l = cc in
     moved known (forgetting (is_under if_match known.seen) known) l same (forgetting_goes (is_under if_match known.seen) known)
 
+unshown_goes : (book : Book) (name : RecordName) (known : Known) (content : Option Content) (s : ShownRecord) (l : Lesson) → unshown_lesson book name known content s ≡ Ok l → Goes known l.known
+unshown_goes book name known None s l is =
+    let sight : List ℕ → Sight = λ tag. record { id = s.id; revision = no_revision; tag = tag } in
+    let (named, fits, rest) = through (fault_unless Unfit (same_name name (content_name s.content))) (λ u. or_fault Unversioned s.version >>= λ tag. Ok (differing known (sight tag))) l is in
+    let (tag, has, made) = through (or_fault Unversioned s.version) (λ tag. Ok (differing known (sight tag))) l rest in
+    let same : differing known (sight tag) ≡ l = cc in
+    moved known (differing known (sight tag)) l same (refl, reflexive_up_to known.confirmed)
+unshown_goes book name known (Some content) s l is =
+    let stands = standing_for content s in
+    let (said, fits, rest) = through (fault_unless Unfit (says name content s)) (λ u. shown_lesson book name known stands) l is in
+    shown_goes known.is_doubted book name known stands l rest
+
+lesson_at_goes : (keeps : Keeps) (book : Book) (name : RecordName) (known : Known) (content : Option Content) (said : Finding) (l : Lesson) → lesson_at keeps book name known content said ≡ Ok l → Goes known l.known
+lesson_at_goes Revisions book name known content said l is = lesson_goes book name known said l is
+lesson_at_goes Versions book name known content (Shows s) l is = unshown_goes book name known content s l is
+lesson_at_goes Versions book name known content Shows_none l is = lesson_goes book name known Shows_none l is
+lesson_at_goes Versions book name known content Taken l is = lesson_goes book name known Taken l is
+lesson_at_goes Versions book name known content (Stale if_match) l is = lesson_goes book name known (Stale if_match) l is
+
 -- ---- the book
 
 abbrev GoesAt : (here there : Option Known) → Type 0
@@ -108,31 +132,31 @@ put_goes book name known next there goes other =
 abbrev noting : Book → RecordName → Lesson → Result Learning LearnFault
 noting book name l = Ok (noted book name l)
 
-abbrev of_said : Book → RecordName → Known → Finding → Result Learning LearnFault
-of_said book name known said = lesson book name known said >>= noting book name
+abbrev of_said : Keeps → Book → Request → RecordName → Known → Finding → Result Learning LearnFault
+of_said keeps book request name known said = lesson_at keeps book name known (carried request) said >>= noting book name
 
-abbrev of_known : Book → Request → Answer → RecordName → Known → Result Learning LearnFault
-of_known book request answer name known = finding request answer >>= of_said book name known
+abbrev of_known : Keeps → Book → Request → Answer → RecordName → Known → Result Learning LearnFault
+of_known keeps book request answer name known = finding request answer >>= of_said keeps book request name known
 
-abbrev of_name : Book → Request → Answer → RecordName → Result Learning LearnFault
-of_name book request answer name = or_fault NoSuchRecord (book name) >>= of_known book request answer name
+abbrev of_name : Keeps → Book → Request → Answer → RecordName → Result Learning LearnFault
+of_name keeps book request answer name = or_fault NoSuchRecord (book name) >>= of_known keeps book request answer name
 
-learnt_goes : (book : Book) (request : Request) (answer : Answer) (result : Learning) → learn book request answer ≡ Ok result → BookGoes book result.book
-learnt_goes book request answer result is =
-    let (name, named, after_name) = through (or_fault Unfit (subject request)) (of_name book request answer) result is in
-    let (known, has, after_known) = through (or_fault NoSuchRecord (book name)) (of_known book request answer name) result after_name in
-    let (said, says, after_said) = through (finding request answer) (of_said book name known) result after_known in
-    let (l, teaches, made) = through (lesson book name known said) (noting book name) result after_said in
+learnt_goes : (keeps : Keeps) (book : Book) (request : Request) (answer : Answer) (result : Learning) → learn_at keeps book request answer ≡ Ok result → BookGoes book result.book
+learnt_goes keeps book request answer result is =
+    let (name, named, after_name) = through (or_fault Unfit (subject request)) (of_name keeps book request answer) result is in
+    let (known, has, after_known) = through (or_fault NoSuchRecord (book name)) (of_known keeps book request answer name) result after_name in
+    let (said, says, after_said) = through (finding request answer) (of_said keeps book request name known) result after_known in
+    let (l, teaches, made) = through (lesson_at keeps book name known (carried request) said) (noting book name) result after_said in
     let same : noted book name l ≡ result = cc in
     subst (λ (x : Learning). BookGoes book x.book) same
-    (put_goes book name known l.known (was_there NoSuchRecord (book name) known has) (lesson_goes book name known said l teaches))
+    (put_goes book name known l.known (was_there NoSuchRecord (book name) known has) (lesson_at_goes keeps book name known (carried request) said l teaches))
 
-after_goes : (book : Book) (request : Request) (answer : Answer) → BookGoes book (after_learning book (learn book request answer))
-after_goes book request answer = go (learn book request answer) refl
+after_goes : (keeps : Keeps) (book : Book) (request : Request) (answer : Answer) → BookGoes book (after_learning book (learn_at keeps book request answer))
+after_goes keeps book request answer = go (learn_at keeps book request answer) refl
   where
-    go : (r : Result Learning LearnFault) → learn book request answer ≡ r → BookGoes book (after_learning book r)
+    go : (r : Result Learning LearnFault) → learn_at keeps book request answer ≡ r → BookGoes book (after_learning book r)
     go (Err fault) is = book_stays book
-    go (Ok result) is = learnt_goes book request answer result is
+    go (Ok result) is = learnt_goes keeps book request answer result is
 
 -- ---- the connector
 
@@ -146,10 +170,10 @@ onward_more old between new p q = record {
   confirmed = λ name. transitive_up_to (confirmed_of (book_of old) name) (confirmed_of (book_of between) name) (confirmed_of (book_of new) name) (p.confirmed name) (q.confirmed name);
 }
 
-module _ {J : Type 0} (g : Ghosts J) (request : Request) where
-  learns_onward : (answer : Answer) (result : Result Learnt LearnFault) (old new : State J) → Learns g request answer result old new → Onward old.book new.book
+module _ {J : Type 0} (g : Ghosts J) (keeps : Keeps) (request : Request) where
+  learns_onward : (answer : Answer) (result : Result Learnt LearnFault) (old new : State J) → Learns g keeps request answer result old new → Onward old.book new.book
   learns_onward answer (Ok learnt) old new l =
-      let goes = after_goes (book_of old.book) request answer in
+      let goes = after_goes keeps (book_of old.book) request answer in
       record {
         names = l.names;
         rows = λ name. ap (λ (b : Book). wanted_row b name) l.ok ∙ (goes name).0;
@@ -157,6 +181,6 @@ module _ {J : Type 0} (g : Ghosts J) (request : Request) where
       }
   learns_onward answer (Err fault) old new l = subst (λ (b : BookMap). Onward old.book b) (sym l.err) (onward_still old.book)
 
-  pub becomes_onward : (came : Came) (old new : State J) → Becomes g request came old new → Onward old.book new.book
+  pub becomes_onward : (came : Came) (old new : State J) → Becomes g keeps request came old new → Onward old.book new.book
   becomes_onward (answered answer learnt) old new l = learns_onward answer learnt old new l
   becomes_onward (lost fault) old new same = subst (λ (s : State J). Onward old.book s.book) (sym same) (onward_still old.book)

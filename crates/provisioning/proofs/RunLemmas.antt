@@ -12,6 +12,7 @@ use Rattle.provisioning.specs.Abreast.{both}
 use Rattle.provisioning.specs.Openings.{Opening}
 use Rattle.provisioning.specs.Records.{IsPushed, greatest_count}
 use Rattle.provisioning.specs.Runs.{AllDone, AreDone, Done, EndsAt, GoesOnAfterEach, PartDone, is_confirmed, streak_after, tally_of, tally_with}
+use Rattle.provisioning.specs.Services.{Service}
 use Rattle.provisioning.specs.Streaks.{go_on_after, streak_with}
 use Rattle.provisioning.specs.declared.faults.RunFault.{RunFault}
 use Rattle.provisioning.specs.declared.pushing.Tally.{Tally}
@@ -64,25 +65,25 @@ goes_next limit streak (e ∷ done) d each ok = (each.0, goes_next limit (streak
 
 -- ---- the records
 
-module _ {I O J : Type 0} (remaining : I → Option (List ℕ)) (contents : O → Option (List ℕ)) (g : Ghosts J) (base : List ℕ) where
+module _ {I O J : Type 0} (remaining : I → Option (List ℕ)) (contents : O → Option (List ℕ)) (g : Ghosts J) (service : Service) where
   done_then : (done more : List Done) (first then : List (Opening I O)) (old between new : State J)
-      → AreDone remaining contents g base done first old between → AreDone remaining contents g base more then between new → AreDone remaining contents g base (done ++ more) (first ++ then) old new
+      → AreDone remaining contents g service done first old between → AreDone remaining contents g service more then between new → AreDone remaining contents g service (done ++ more) (first ++ then) old new
   done_then [] more first then old between new (none, same) are =
-      subst (λ (s : State J). AreDone remaining contents g base more (first ++ then) s new) same
-      (subst (λ (l : List (Opening I O)). AreDone remaining contents g base more (l ++ then) between new) (sym none) are)
+      subst (λ (s : State J). AreDone remaining contents g service more (first ++ then) s new) same
+      (subst (λ (l : List (Opening I O)). AreDone remaining contents g service more (l ++ then) between new) (sym none) are)
   done_then (d ∷ done) more first then old between new a are =
       (a.0, a.1 ++ then, a.2, ap (λ xs. xs ++ then) a.3 ∙ append_assoc a.0 a.1 then, a.4, done_then done more a.1 then a.2 between new a.5 are)
 
   -- one record more, with its openings
-  pub done_more : (done : List Done) (d : Done) (first then : List (Opening I O)) (old between new : State J) → AreDone remaining contents g base done first old between
-      → IsPushed remaining contents g base d.0 then between new d.1 → AreDone remaining contents g base (done ++ d ∷ []) (first ++ then) old new
+  pub done_more : (done : List Done) (d : Done) (first then : List (Opening I O)) (old between new : State J) → AreDone remaining contents g service done first old between
+      → IsPushed remaining contents g service d.0 then between new d.1 → AreDone remaining contents g service (done ++ d ∷ []) (first ++ then) old new
   done_more done d first then old between new are is =
       done_then done (d ∷ []) first then old between new are (then, [], new, sym (append-nil then), is, (refl, refl))
 
   -- these records, and then those
   pub all_then : (names more : List RecordName) (first then : List (Opening I O)) (old between new : State J) (before mid after : Option (List Done)) (tally next : Tally)
-      → AllDone remaining contents g base names first old between before mid tally → AllDone remaining contents g base more then between new mid after next
-      → AllDone remaining contents g base (names ++ more) (first ++ then) old new before after (both tally next)
+      → AllDone remaining contents g service names first old between before mid tally → AllDone remaining contents g service more then between new mid after next
+      → AllDone remaining contents g service (names ++ more) (first ++ then) old new before after (both tally next)
   all_then names more first then old between new before mid after tally next a b = record {
     done = a.done ++ b.done;
     names_are = map-append (λ (d : Done). d.0) a.done b.done ∙ ap (λ xs. xs ++ map (λ (d : Done). d.0) b.done) a.names_are ∙ ap (λ xs. names ++ xs) b.names_are;
@@ -92,8 +93,8 @@ module _ {I O J : Type 0} (remaining : I → Option (List ℕ)) (contents : O �
   }
 
   pub part_then : (limit : ℕ) (names more : List RecordName) (first then : List (Opening I O)) (old between new : State J) (before mid : Option (List Done)) (tally : Tally) (fault : RunFault)
-      → AllDone remaining contents g base names first old between before mid tally → PartDone remaining contents g base limit more then between new fault
-      → PartDone remaining contents g base limit (names ++ more) (first ++ then) old new fault
+      → AllDone remaining contents g service names first old between before mid tally → PartDone remaining contents g service limit more then between new fault
+      → PartDone remaining contents g service limit (names ++ more) (first ++ then) old new fault
   part_then limit names more first then old between new before mid tally fault a b = record {
     done = a.done ++ b.done;
     rest = b.rest;
@@ -109,12 +110,12 @@ module _ {I O J : Type 0} (remaining : I → Option (List ℕ)) (contents : O �
   }
 
   ends_before : (rest more : List RecordName) (last : List (Opening I O)) (between new : State J) (fault : RunFault)
-      → EndsAt remaining contents g base rest last between new fault → EndsAt remaining contents g base (rest ++ more) last between new fault
+      → EndsAt remaining contents g service rest last between new fault → EndsAt remaining contents g service (rest ++ more) last between new fault
   ends_before [] more last between new fault ends = absurd ends
   ends_before (name ∷ rest) more last between new fault ends = ends
 
   pub part_before : (limit : ℕ) (names more : List RecordName) (opened : List (Opening I O)) (old new : State J) (fault : RunFault)
-      → PartDone remaining contents g base limit names opened old new fault → PartDone remaining contents g base limit (names ++ more) opened old new fault
+      → PartDone remaining contents g service limit names opened old new fault → PartDone remaining contents g service limit (names ++ more) opened old new fault
   part_before limit names more opened old new fault a = record {
     done = a.done;
     rest = a.rest ++ more;

@@ -12,9 +12,11 @@ use Rattle.connector_core.specs.State.{State}
 use Rattle.connector_core.specs.declared.asking.Ask.{Ask}
 use Rattle.connector_core.specs.declared.asking.Ask.TheVariants.{Send}
 use Rattle.connector_core.specs.declared.asking.AskFault.TheVariants as faults
+use Rattle.connector_core.specs.declared.keeps.Keeps.{Keeps}
 use Rattle.provisioning.specs.Exchanges.{IsTaken}
 use Rattle.provisioning.specs.Openings.{Opening}
 use Rattle.provisioning.specs.Records.{Stands, most_exchanges}
+use Rattle.provisioning.specs.Services.{Service}
 use Rattle.provisioning.specs.Tracks.{Advances, ComesOfOpening, GoesOn, IsHeard, IsLearnt, IsReadFrom, IsSetOut, StandsAt, faulted, may_wait, put_off}
 use Rattle.provisioning.specs.declared.faults.RecordFault.{RecordFault}
 use Rattle.provisioning.specs.declared.faults.RunFault.{RunFault}
@@ -33,24 +35,24 @@ pub spent_at : (book : Book) (a : Account) (standing : Standing) → most_exchan
 spent_at book a standing all (inl rests) = inl rests
 spent_at book a standing all (inr s) = inr (record { all = all; unconfirmed = s.unconfirmed; last_is = s.last_is })
 
-pub went_on : {I O : Type 0} (contents : O → Option (List ℕ)) (base : List ℕ) (a : Account) (book : Book) (request : Request) (opening : Opening I O) (result : Result (Track I O) RunFault)
-    → a.exchanges < most_exchanges → asking book a.name ≡ Some (Send request) → ComesOfOpening contents base a request opening result
-    → GoesOn contents base a (opening ∷ []) book result
-went_on {I} {O} contents base a book request (Ok stream) result left asked (f, set, is) =
-    subst (λ (r : Result (Track I O) RunFault). GoesOn contents base a (Ok stream ∷ []) book r) (sym is) (record {
+pub went_on : {I O : Type 0} (contents : O → Option (List ℕ)) (service : Service) (a : Account) (book : Book) (request : Request) (opening : Opening I O) (result : Result (Track I O) RunFault)
+    → a.exchanges < most_exchanges → asking book a.name ≡ Some (Send request) → ComesOfOpening contents service a request opening result
+    → GoesOn contents service a (opening ∷ []) book result
+went_on {I} {O} contents service a book request (Ok stream) result left asked (f, set, is) =
+    subst (λ (r : Result (Track I O) RunFault). GoesOn contents service a (Ok stream ∷ []) book r) (sym is) (record {
       stream = stream;
       left = left;
       asked = asked ∙ ap (λ (r : Request). Some (Send r)) (sym set.request_is);
       opened_are = refl;
-      set_out = subst (λ (r : Request). IsSetOut contents base r stream f) (sym set.request_is) set;
+      set_out = subst (λ (r : Request). IsSetOut contents service r stream f) (sym set.request_is) set;
       later_is = refl;
     })
-went_on {I} {O} contents base a book request (Err error) result left asked is =
-    subst (λ (r : Result (Track I O) RunFault). GoesOn contents base a (Err error ∷ []) book r) (sym is) (left, inl (error, refl, refl))
+went_on {I} {O} contents service a book request (Err error) result left asked is =
+    subst (λ (r : Result (Track I O) RunFault). GoesOn contents service a (Err error ∷ []) book r) (sym is) (left, inl (error, refl, refl))
 
-pub learnt_by : {I O J : Type 0} (remaining : I → Option (List ℕ)) (g : Ghosts J) (f : Flight I O) (came : Result Answer ExchangeFault) (old new : State J) (result : Result (Option RecordFault) RunFault)
-    → IsHeard remaining f.request f.reader f.sent came → IsTaken g f.request came old new result → IsLearnt remaining g f old new result
-learnt_by remaining g f came old new result heard taken = record {
+pub learnt_by : {I O J : Type 0} (remaining : I → Option (List ℕ)) (g : Ghosts J) (keeps : Keeps) (f : Flight I O) (came : Result Answer ExchangeFault) (old new : State J) (result : Result (Option RecordFault) RunFault)
+    → IsHeard remaining f.request f.reader f.sent came → IsTaken g keeps f.request came old new result → IsLearnt remaining g keeps f old new result
+learnt_by remaining g keeps f came old new result heard taken = record {
   came = taken.came;
   heard = subst (λ (said : Result Answer ExchangeFault). IsHeard remaining f.request f.reader f.sent said) (sym taken.answer_is) heard;
   becomes = taken.becomes;
@@ -65,28 +67,28 @@ pub heard_fault : {I : Type 0} (remaining : I → Option (List ℕ)) (request : 
     → sent ≡ Err fault → IsHeard remaining request reader sent (Err fault)
 heard_fault remaining request reader sent fault is = subst (λ (s : Result (Unit {0}) ExchangeFault). IsHeard remaining request reader s (Err fault)) (sym is) refl
 
-pub ends_learning : {I O J : Type 0} (remaining : I → Option (List ℕ)) (contents : O → Option (List ℕ)) (g : Ghosts J) (base : List ℕ) (track : Track I O) (a : Account) (f : Flight I O) (fault : RunFault) (old new : State J) (said : Result (Option RecordFault) RunFault)
-    → track ≡ UnderWay a f → said ≡ Err fault → IsLearnt remaining g f old new said → Advances remaining contents g base track [] old new (Err fault)
-ends_learning {I} {O} remaining contents g base track a f fault old new said is ends heard =
-    let learnt = subst (λ (r : Result (Option RecordFault) RunFault). IsLearnt remaining g f old new r) ends heard in
-    subst (λ (t : Track I O). Advances remaining contents g base t [] old new (Err fault)) (sym is) (inr (inr (fault, learnt, refl, refl)))
+pub ends_learning : {I O J : Type 0} (remaining : I → Option (List ℕ)) (contents : O → Option (List ℕ)) (g : Ghosts J) (service : Service) (track : Track I O) (a : Account) (f : Flight I O) (fault : RunFault) (old new : State J) (said : Result (Option RecordFault) RunFault)
+    → track ≡ UnderWay a f → said ≡ Err fault → IsLearnt remaining g service.keeps f old new said → Advances remaining contents g service track [] old new (Err fault)
+ends_learning {I} {O} remaining contents g service track a f fault old new said is ends heard =
+    let learnt = subst (λ (r : Result (Option RecordFault) RunFault). IsLearnt remaining g service.keeps f old new r) ends heard in
+    subst (λ (t : Track I O). Advances remaining contents g service t [] old new (Err fault)) (sym is) (inr (inr (fault, learnt, refl, refl)))
 
-pub continues : {I O J : Type 0} (remaining : I → Option (List ℕ)) (contents : O → Option (List ℕ)) (g : Ghosts J) (base : List ℕ) (track : Track I O) (a : Account) (f : Flight I O) (fault : Option RecordFault) (opened : List (Opening I O)) (old new : State J)
-    (later : Account) (result : Result (Track I O) RunFault) → track ≡ UnderWay a f → IsLearnt remaining g f old new (Ok fault) → later ≡ faulted fault a → GoesOn contents base later opened (book_of new.book) result
-    → Advances remaining contents g base track opened old new result
-continues {I} {O} remaining contents g base track a f fault opened old new later result is learnt same goes =
-    subst (λ (t : Track I O). Advances remaining contents g base t opened old new result) (sym is)
-    (inl (record { fault = fault; learnt = learnt; goes_on = subst (λ (x : Account). GoesOn contents base x opened (book_of new.book) result) same goes }))
+pub continues : {I O J : Type 0} (remaining : I → Option (List ℕ)) (contents : O → Option (List ℕ)) (g : Ghosts J) (service : Service) (track : Track I O) (a : Account) (f : Flight I O) (fault : Option RecordFault) (opened : List (Opening I O)) (old new : State J)
+    (later : Account) (result : Result (Track I O) RunFault) → track ≡ UnderWay a f → IsLearnt remaining g service.keeps f old new (Ok fault) → later ≡ faulted fault a → GoesOn contents service later opened (book_of new.book) result
+    → Advances remaining contents g service track opened old new result
+continues {I} {O} remaining contents g service track a f fault opened old new later result is learnt same goes =
+    subst (λ (t : Track I O). Advances remaining contents g service t opened old new result) (sym is)
+    (inl (record { fault = fault; learnt = learnt; goes_on = subst (λ (x : Account). GoesOn contents service x opened (book_of new.book) result) same goes }))
 
-pub delays : {I O J : Type 0} (remaining : I → Option (List ℕ)) (contents : O → Option (List ℕ)) (g : Ghosts J) (base : List ℕ) (track : Track I O) (a : Account) (f : Flight I O) (fault : Option RecordFault) (old new : State J)
-    (said : Result (Option RecordFault) RunFault) (later last : Account) → track ≡ UnderWay a f → said ≡ Ok fault → IsLearnt remaining g f old new said → may_wait fault a ≡ true → later ≡ faulted fault a → last ≡ put_off later
-    → Advances remaining contents g base track [] old new (Ok (Delayed last))
-delays {I} {O} remaining contents g base track a f fault old new said later last is ok heard may same put =
-    let learnt = subst (λ (r : Result (Option RecordFault) RunFault). IsLearnt remaining g f old new r) ok heard in
-    subst (λ (t : Track I O). Advances remaining contents g base t [] old new (Ok (Delayed last))) (sym is)
+pub delays : {I O J : Type 0} (remaining : I → Option (List ℕ)) (contents : O → Option (List ℕ)) (g : Ghosts J) (service : Service) (track : Track I O) (a : Account) (f : Flight I O) (fault : Option RecordFault) (old new : State J)
+    (said : Result (Option RecordFault) RunFault) (later last : Account) → track ≡ UnderWay a f → said ≡ Ok fault → IsLearnt remaining g service.keeps f old new said → may_wait fault a ≡ true → later ≡ faulted fault a → last ≡ put_off later
+    → Advances remaining contents g service track [] old new (Ok (Delayed last))
+delays {I} {O} remaining contents g service track a f fault old new said later last is ok heard may same put =
+    let learnt = subst (λ (r : Result (Option RecordFault) RunFault). IsLearnt remaining g service.keeps f old new r) ok heard in
+    subst (λ (t : Track I O). Advances remaining contents g service t [] old new (Ok (Delayed last))) (sym is)
     (inr (inl (record { fault = fault; learnt = learnt; may = may; opened_none = refl; result_is = ap (λ (x : Account). Ok (Delayed x)) (put ∙ ap put_off same) })))
 
-pub resumes : {I O J : Type 0} (remaining : I → Option (List ℕ)) (contents : O → Option (List ℕ)) (g : Ghosts J) (base : List ℕ) (track : Track I O) (a : Account) (opened : List (Opening I O)) (state : State J)
-    (result : Result (Track I O) RunFault) → track ≡ Delayed a → GoesOn contents base a opened (book_of state.book) result → Advances remaining contents g base track opened state state result
-resumes {I} {O} remaining contents g base track a opened state result is goes =
-    subst (λ (t : Track I O). Advances remaining contents g base t opened state state result) (sym is) (refl, goes)
+pub resumes : {I O J : Type 0} (remaining : I → Option (List ℕ)) (contents : O → Option (List ℕ)) (g : Ghosts J) (service : Service) (track : Track I O) (a : Account) (opened : List (Opening I O)) (state : State J)
+    (result : Result (Track I O) RunFault) → track ≡ Delayed a → GoesOn contents service a opened (book_of state.book) result → Advances remaining contents g service track opened state state result
+resumes {I} {O} remaining contents g service track a opened state result is goes =
+    subst (λ (t : Track I O). Advances remaining contents g service t opened state state result) (sym is) (refl, goes)

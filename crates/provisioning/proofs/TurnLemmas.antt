@@ -9,6 +9,7 @@ use Rattle.connector_core.specs.State.{State}
 use Rattle.provisioning.specs.Exchanges.{Exchange, IsExchange, opening_of, openings_of, outcome}
 use Rattle.provisioning.specs.Openings.{Opening}
 use Rattle.provisioning.specs.Records.{AreExchanges, Ends, EndsRun, IsPushed, Stands, fault_in, last_fault, most_exchanges}
+use Rattle.provisioning.specs.Services.{Service}
 use Rattle.provisioning.specs.declared.faults.RunFault.{RunFault}
 use Rattle.provisioning.specs.declared.faults.RecordFault.{RecordFault}
 use Rattle.provisioning.specs.declared.records.Standing.{Standing}
@@ -31,22 +32,22 @@ last_fault_more (first ∷ es) e = ap (λ o. option_or o (fault_in (outcome firs
 -- ---- the exchanges so far
 
 -- the exchanges so far, each on a stream of its own, with this as their last fault
-pub record IsSoFar {I O J : Type 0} (remaining : I → Option (List ℕ)) (contents : O → Option (List ℕ)) (g : Ghosts J) (base : List ℕ) (name : RecordName) (opened : List (Opening I O)) (old new : State J) (count : ℕ) (last : Option RecordFault) : Type 0 where
+pub record IsSoFar {I O J : Type 0} (remaining : I → Option (List ℕ)) (contents : O → Option (List ℕ)) (g : Ghosts J) (service : Service) (name : RecordName) (opened : List (Opening I O)) (old new : State J) (count : ℕ) (last : Option RecordFault) : Type 0 where
   pub exchanges : List (Exchange I O)
-  pub are : AreExchanges remaining contents g base name exchanges old new
+  pub are : AreExchanges remaining contents g service name exchanges old new
   pub opened_are : opened ≡ openings_of exchanges
   pub count_is : length exchanges ≡ count
   pub most : count ≤ most_exchanges
   pub last_is : last ≡ last_fault exchanges
 
-module _ {I O J : Type 0} (remaining : I → Option (List ℕ)) (contents : O → Option (List ℕ)) (g : Ghosts J) (base : List ℕ) (name : RecordName) where
+module _ {I O J : Type 0} (remaining : I → Option (List ℕ)) (contents : O → Option (List ℕ)) (g : Ghosts J) (service : Service) (name : RecordName) where
   abbrev SoFar : (opened : List (Opening I O)) → (old new : State J) → (count : ℕ) → (last : Option RecordFault) → Type 0
-  SoFar opened old new count last = IsSoFar remaining contents g base name opened old new count last
+  SoFar opened old new count last = IsSoFar remaining contents g service name opened old new count last
 
   exchanges_more : (es : List (Exchange I O)) (e : Exchange I O) (old between new : State J)
-      → AreExchanges remaining contents g base name es old between → IsExchange remaining contents g base name e between new → IsOk (outcome e.came)
-      → AreExchanges remaining contents g base name (es ++ e ∷ []) old new
-  exchanges_more [] e old between new are is ok = (new, subst (λ (s : State J). IsExchange remaining contents g base name e s new) are is, ok, refl)
+      → AreExchanges remaining contents g service name es old between → IsExchange remaining contents g service name e between new → IsOk (outcome e.came)
+      → AreExchanges remaining contents g service name (es ++ e ∷ []) old new
+  exchanges_more [] e old between new are is ok = (new, subst (λ (s : State J). IsExchange remaining contents g service name e s new) are is, ok, refl)
   exchanges_more (first ∷ es) e old between new are is ok = (are.0, are.1, are.2, exchanges_more es e are.0 between new are.3 is ok)
 
   pub none_so_far : (state : State J) → SoFar [] state state 0 None
@@ -54,7 +55,7 @@ module _ {I O J : Type 0} (remaining : I → Option (List ℕ)) (contents : O �
 
   -- one exchange more, on one stream more
   pub exchange_more : (first then : List (Opening I O)) (old between new : State J) (count : ℕ) (last fault : Option RecordFault) (e : Exchange I O)
-      → SoFar first old between count last → count < most_exchanges → then ≡ opening_of e ∷ [] → IsExchange remaining contents g base name e between new → outcome e.came ≡ Ok fault
+      → SoFar first old between count last → count < most_exchanges → then ≡ opening_of e ∷ [] → IsExchange remaining contents g service name e between new → outcome e.came ≡ Ok fault
       → SoFar (first ++ then) old new (count + 1) (option_or fault last)
   exchange_more first then old between new count last fault e so less one is came = record {
     exchanges = so.exchanges ++ e ∷ [];
@@ -68,7 +69,7 @@ module _ {I O J : Type 0} (remaining : I → Option (List ℕ)) (contents : O �
   -- ---- the end
 
   pub so_pushed : (opened : List (Opening I O)) (old new : State J) (count : ℕ) (last : Option RecordFault) (standing : Standing) → SoFar opened old new count last
-      → Stands (book_of new.book) name count last standing → IsPushed remaining contents g base name opened old new (record { exchanges = count; standing = standing })
+      → Stands (book_of new.book) name count last standing → IsPushed remaining contents g service name opened old new (record { exchanges = count; standing = standing })
   so_pushed opened old new count last standing so stands = record {
     exchanges = so.exchanges;
     are = so.are;
@@ -79,7 +80,7 @@ module _ {I O J : Type 0} (remaining : I → Option (List ℕ)) (contents : O �
   }
 
   pub so_ends : (first last : List (Opening I O)) (old between new : State J) (count : ℕ) (fault : Option RecordFault) (end : RunFault) → SoFar first old between count fault
-      → count < most_exchanges → Ends remaining contents g base name last between new end → EndsRun remaining contents g base name (first ++ last) old new end
+      → count < most_exchanges → Ends remaining contents g service name last between new end → EndsRun remaining contents g service name (first ++ last) old new end
   so_ends first last old between new count fault end so less ends = record {
     exchanges = so.exchanges;
     last = last;

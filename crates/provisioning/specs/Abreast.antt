@@ -11,6 +11,7 @@ use Rattle.provisioning.specs.Openings.{Opening}
 use Rattle.provisioning.specs.Orders.{IsPushOrder}
 use Rattle.provisioning.specs.Records.{greatest_count}
 use Rattle.provisioning.specs.Runs.{Done}
+use Rattle.provisioning.specs.Services.{Service}
 use Rattle.provisioning.specs.Windows.{AllMoved, PartMoved, PushesAbreast}
 use Rattle.provisioning.specs.declared.faults.RunFault.{RunFault}
 use Rattle.provisioning.specs.declared.faults.RunFault.TheVariants.{Memory}
@@ -46,7 +47,7 @@ joined tally (Ok more) = Ok (both tally more)
 joined tally (Err fault) = Err fault
 
 module _ {I O J : Type 0} (remaining : I → Option (List ℕ))
-    (contents : O → Option (List ℕ)) (g : Ghosts J) (base : List ℕ) (window limit : ℕ) where
+    (contents : O → Option (List ℕ)) (g : Ghosts J) (service : Service) (window limit : ℕ) where
   -- the groups begin when every user is done and reported; or a fault ended the run before. Streaks of users and of
   -- groups are counted apart
   abbrev pub PushesBoth : (users groups : List RecordName) → (opened : List (Opening I O)) → (old new : State J)
@@ -54,10 +55,10 @@ module _ {I O J : Type 0} (remaining : I → Option (List ℕ))
   PushesBoth users groups opened old new before after result =
       ((first : List (Opening I O)) × (last : List (Opening I O)) × (between : State J)
       × (then : Option (List Done)) × (tally : Tally) × (more : Result Tally RunFault) × (opened ≡ first ++ last)
-      × AllMoved remaining contents g base window limit users first old between before then tally
-      × PushesAbreast remaining contents g base window limit groups last between new then after more
+      × AllMoved remaining contents g service window limit users first old between before then tally
+      × PushesAbreast remaining contents g service window limit groups last between new then after more
       × (result ≡ joined tally more))
-      ⊎ ((fault : RunFault) × PartMoved remaining contents g base window limit users opened old new fault
+      ⊎ ((fault : RunFault) × PartMoved remaining contents g service window limit users opened old new fault
       × (result ≡ Err fault))
 
   -- The records of the connector, users and then groups, in this order; or memory ran out before the first of them

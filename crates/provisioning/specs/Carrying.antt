@@ -5,6 +5,7 @@ use Rattle.connector_core.specs.State.{State}
 use Rattle.provisioning.specs.Openings.{Opening}
 use Rattle.provisioning.specs.Paces.{PushesAt}
 use Rattle.provisioning.specs.Runs.{Done, PushesAll}
+use Rattle.provisioning.specs.Services.{Service}
 use Rattle.provisioning.specs.declared.faults.RunFault.{RunFault}
 use Rattle.provisioning.specs.declared.paces.Pace.{Pace}
 use Rattle.provisioning.specs.declared.pushing.Tally.{Tally}
@@ -38,25 +39,25 @@ CarriesBy {I} {O} {J} {T} pushes g heard told sources opened old new before afte
 
 -- one record after another, in the order of keys
 abbrev pub Carries : {I O J T : Type 0} → (I → Option (List ℕ)) → (O → Option (List ℕ)) → Ghosts J
-    → (heard : T → Option (List Judged)) → (told : T → Option (List Done)) → List ℕ → Sources
+    → (heard : T → Option (List Judged)) → (told : T → Option (List Done)) → Service → Sources
     → (opened : List (Opening I O)) → (old new : State J) → (before after : T) → Result Outcome RunFault → Type 0
-Carries remaining contents g heard told base sources opened old new before after result =
-    CarriesBy (PushesAll remaining contents g base) g heard told sources opened old new before after result
+Carries remaining contents g heard told service sources opened old new before after result =
+    CarriesBy (PushesAll remaining contents g service) g heard told sources opened old new before after result
 
 -- at this pace
 abbrev pub CarriesAt : {I O J T : Type 0} → (I → Option (List ℕ)) → (O → Option (List ℕ)) → Ghosts J → Pace
-    → (heard : T → Option (List Judged)) → (told : T → Option (List Done)) → List ℕ → Sources
+    → (heard : T → Option (List Judged)) → (told : T → Option (List Done)) → Service → Sources
     → (opened : List (Opening I O)) → (old new : State J) → (before after : T) → Result Outcome RunFault → Type 0
-CarriesAt remaining contents g pace heard told base sources opened old new before after result =
-    CarriesBy (PushesAt remaining contents g base pace) g heard told sources opened old new before after result
+CarriesAt remaining contents g pace heard told service sources opened old new before after result =
+    CarriesBy (PushesAt remaining contents g service pace) g heard told sources opened old new before after result
 
 -- the same, if it isn't known which streams were opened before, and how it is reported
 abbrev pub CarriesToldAt : {I O J T : Type 0} → (I → Option (List ℕ)) → (O → Option (List ℕ)) → Ghosts J → Pace
-    → (heard : T → Option (List Judged)) → (told : T → Option (List Done)) → List ℕ → Sources → (old new : State J)
+    → (heard : T → Option (List Judged)) → (told : T → Option (List Done)) → Service → Sources → (old new : State J)
     → Result Outcome RunFault → Type 0
-CarriesToldAt {I} {O} {J} {T} remaining contents g pace heard told base sources old new result =
+CarriesToldAt {I} {O} {J} {T} remaining contents g pace heard told service sources old new result =
     (opened : List (Opening I O)) × (before : T) × (after : T)
-    × CarriesAt remaining contents g pace heard told base sources opened old new before after result
+    × CarriesAt remaining contents g pace heard told service sources opened old new before after result
 
 -- in any way, if it isn't known what was reported before, and which streams were opened before
 abbrev pub SilentlyBy : {I O J : Type 0}
@@ -66,11 +67,11 @@ SilentlyBy {I} {O} pushes g sources old new result = (opened : List (Opening I O
     × CarriesBy {T = Unit {0}} pushes g (λ told. None) (λ told. None) sources opened old new tt tt result
 
 abbrev pub CarriesSilently : {I O J : Type 0} → (I → Option (List ℕ)) → (O → Option (List ℕ)) → Ghosts J
-    → List ℕ → Sources → (old new : State J) → Result Outcome RunFault → Type 0
-CarriesSilently remaining contents g base sources old new result =
-    SilentlyBy (PushesAll remaining contents g base) g sources old new result
+    → Service → Sources → (old new : State J) → Result Outcome RunFault → Type 0
+CarriesSilently remaining contents g service sources old new result =
+    SilentlyBy (PushesAll remaining contents g service) g sources old new result
 
 abbrev pub CarriesSilentlyAt : {I O J : Type 0} → (I → Option (List ℕ)) → (O → Option (List ℕ)) → Ghosts J → Pace
-    → List ℕ → Sources → (old new : State J) → Result Outcome RunFault → Type 0
-CarriesSilentlyAt remaining contents g pace base sources old new result =
-    SilentlyBy (PushesAt remaining contents g base pace) g sources old new result
+    → Service → Sources → (old new : State J) → Result Outcome RunFault → Type 0
+CarriesSilentlyAt remaining contents g pace service sources old new result =
+    SilentlyBy (PushesAt remaining contents g service pace) g sources old new result

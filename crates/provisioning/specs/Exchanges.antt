@@ -12,15 +12,18 @@ use Rattle.scim_client.specs.declared.exchange.ExchangeFault.{ExchangeFault}
 use Rattle.journal_core.specs.Calls.{Writes}
 use Rattle.journal_core.specs.declared.journals.Journal.{Ghosts}
 use Rattle.connector_core.specs.Asking.{asking}
-use Rattle.connector_core.specs.Learning.{after_learning, learn}
+use Rattle.connector_core.specs.Keeps.{learn_at}
+use Rattle.connector_core.specs.Learning.{after_learning}
 use Rattle.connector_core.specs.Maps.{GivesUnless, book_of}
-use Rattle.connector_core.specs.Noting.{CountsLearn, KeepsEntries, MayStandFor, learnt_of, note, noted_entries}
+use Rattle.connector_core.specs.Noting.{CountsLearn, KeepsEntries, MayStandFor, learnt_of, note_at, noted_entries}
 use Rattle.connector_core.specs.State.{Leaves, LeavesBook, State}
 use Rattle.connector_core.specs.declared.asking.Ask.TheVariants.{Send}
+use Rattle.connector_core.specs.declared.keeps.Keeps.{Keeps}
 use Rattle.connector_core.specs.declared.learning.LearnFault.{LearnFault}
 use Rattle.connector_core.specs.declared.learning.Learnt.{Learnt}
 use Rattle.provisioning.specs.Faults.{open_fault, unanswered, unlearnt}
 use Rattle.provisioning.specs.Openings.{Opening}
+use Rattle.provisioning.specs.Services.{Service, written_for}
 use Rattle.provisioning.specs.declared.faults.RunFault.{RunFault}
 use Rattle.provisioning.specs.declared.faults.RunFault.TheVariants.{Memory}
 use Rattle.provisioning.specs.declared.faults.RecordFault.{RecordFault}
@@ -46,35 +49,38 @@ outcome (lost fault) = unanswered fault
 
 -- What is learnt from an answer is what the connector's definition says, and nothing else changes its book and its
 -- journal. A stop leaves the book before it or after it
-pub record Learns {J : Type 0} (g : Ghosts J) (request : Request) (answer : Answer)
+pub record Learns {J : Type 0} (g : Ghosts J) (keeps : Keeps) (request : Request) (answer : Answer)
     (result : Result Learnt LearnFault) (old new : State J) : Type 0 where
-  pub learnt : GivesUnless (MayStandFor (learn (book_of old.book) request answer)) result
-      (learnt_of (learn (book_of old.book) request answer))
-  pub ok : OnOk result (book_of new.book ≡ after_learning (book_of old.book) (learn (book_of old.book) request answer))
+  pub learnt : GivesUnless (MayStandFor (learn_at keeps (book_of old.book) request answer)) result
+      (learnt_of (learn_at keeps (book_of old.book) request answer))
+  pub ok : OnOk result (book_of new.book
+      ≡ after_learning (book_of old.book) (learn_at keeps (book_of old.book) request answer))
   pub err : OnErr result (new.book ≡ old.book)
   pub names : keys new.book ≡ keys old.book
   pub journal : Writes g CountsLearn old.journal new.journal
-      (noted_entries (g.entries old.journal) (note (book_of old.book) request answer)) result
+      (noted_entries (g.entries old.journal) (note_at keeps (book_of old.book) request answer)) result
   pub quiet : KeepsEntries old.book new.book → g.writes new.journal ≡ g.writes old.journal
   pub leaves : g.is_honest new.journal → LeavesBook g old →
-      Leaves g old new (after_learning (book_of old.book) (learn (book_of old.book) request answer)) (keys old.book)
+      Leaves g old new (after_learning (book_of old.book) (learn_at keeps (book_of old.book) request answer))
+      (keys old.book)
       result
 
 -- without an answer, the connector is unchanged
-abbrev pub Becomes : {J : Type 0} → Ghosts J → Request → Came → (old new : State J) → Type 0
-Becomes g request (answered answer learnt) old new = Learns g request answer learnt old new
-Becomes g request (lost fault) old new = new ≡ old
+abbrev pub Becomes : {J : Type 0} → Ghosts J → Keeps → Request → Came → (old new : State J) → Type 0
+Becomes g keeps request (answered answer learnt) old new = Learns g keeps request answer learnt old new
+Becomes g keeps request (lost fault) old new = new ≡ old
 
 -- ---- on its stream
 
--- The request's text, which spells it, was written to the writer, and the result is what the bytes of the reader say,
--- from the first on
-pub record IsAsked {I O : Type 0} (remaining : I → Option (List ℕ)) (contents : O → Option (List ℕ)) (base : List ℕ)
+-- The text of the request as it is written for the service, which spells it, was written to the writer, and the result
+-- is what the bytes of the reader say, from the first on
+pub record IsAsked {I O : Type 0} (remaining : I → Option (List ℕ)) (contents : O → Option (List ℕ)) (service : Service)
     (request : Request) (reader : I) (writer : O) (came : Result Answer ExchangeFault) : Type 0 where
   pub left : Reading
   pub written : Writing
-  pub sent : Sends (text_of base request) (fresh_writing (contents writer)) written came
-  pub spelled : SpellsSent base request (fresh_writing (contents writer)) written
+  pub sent : Sends (text_of service.base (written_for service.keeps request)) (fresh_writing (contents writer)) written
+      came
+  pub spelled : SpellsSent service.base (written_for service.keeps request) (fresh_writing (contents writer)) written
   pub read : Reads request (fresh_reading (remaining reader)) left came
   pub known : ExchangesKnown request (remaining reader) left.remaining came
 
@@ -94,11 +100,11 @@ openings_of es = map opening_of es
 
 -- One exchange for a record, on its own stream: the connector's request is sent, and it learns from the answer
 pub record IsExchange {I O J : Type 0} (remaining : I → Option (List ℕ))
-    (contents : O → Option (List ℕ)) (g : Ghosts J) (base : List ℕ) (name : RecordName)
+    (contents : O → Option (List ℕ)) (g : Ghosts J) (service : Service) (name : RecordName)
     (e : Exchange I O) (old new : State J) : Type 0 where
   pub asked : asking (book_of old.book) name ≡ Some (Send e.request)
-  pub sent : IsAsked remaining contents base e.request e.reader e.writer (answer_in e.came)
-  pub becomes : Becomes g e.request e.came old new
+  pub sent : IsAsked remaining contents service e.request e.reader e.writer (answer_in e.came)
+  pub becomes : Becomes g service.keeps e.request e.came old new
 
 -- nothing was sent: the only opening failed, with this error; or memory ran out before any
 abbrev pub IsUnmade : {I O : Type 0} → (opened : List (Opening I O)) → RunFault → Type 0
@@ -106,10 +112,10 @@ IsUnmade opened fault = ((error : Error) × (opened ≡ Err error ∷ []) × (fa
     ⊎ ((opened ≡ []) × (fault ≡ Memory))
 
 -- this is what came, and the connector learns from it
-pub record IsTaken {J : Type 0} (g : Ghosts J) (request : Request)
+pub record IsTaken {J : Type 0} (g : Ghosts J) (keeps : Keeps) (request : Request)
     (answer : Result Answer ExchangeFault) (old new : State J)
     (result : Result (Option RecordFault) RunFault) : Type 0 where
   pub came : Came
   pub answer_is : answer_in came ≡ answer
-  pub becomes : Becomes g request came old new
+  pub becomes : Becomes g keeps request came old new
   pub result_is : result ≡ outcome came

@@ -10,6 +10,7 @@ pub mod Onward
 pub mod Openings
 pub mod Records
 pub mod Runs
+pub mod Services
 pub mod Sources
 pub mod Streaks
 pub mod Today

@@ -11,6 +11,7 @@ use Rattle.connector_core.specs.declared.accepting.Verdict.{Verdict}
 use Rattle.connector_core.specs.declared.changing.ChangeFault.{ChangeFault}
 use Rattle.provisioning.specs.Carrying.{CarriesSilentlyAt}
 use Rattle.provisioning.specs.Runs.{IsUntold, is_confirmed}
+use Rattle.provisioning.specs.Services.{Service}
 use Rattle.provisioning.specs.Sources.{records_of}
 use Rattle.provisioning.specs.declared.carrying.Outcome.{Outcome}
 use Rattle.provisioning.specs.declared.faults.RunFault.{RunFault}
@@ -76,7 +77,7 @@ Concludes (Err cause) result = result ≡ Err cause
 
 -- a run, and its counts
 abbrev pub CarriesQuietly : {I O J : Type 0} → (I → Option (List ℕ)) → (O → Option (List ℕ)) → Ghosts J → Pace
-    → List ℕ → Sources → (old new : State J) → Result Outcome RunFault → Type 0
-CarriesQuietly remaining contents g pace base sources old new result =
-    (carried : Result Outcome RunFault) × CarriesSilentlyAt remaining contents g pace base sources old new carried
+    → Service → Sources → (old new : State J) → Result Outcome RunFault → Type 0
+CarriesQuietly remaining contents g pace service sources old new result =
+    (carried : Result Outcome RunFault) × CarriesSilentlyAt remaining contents g pace service sources old new carried
     × Concludes carried result

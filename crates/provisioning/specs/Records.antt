@@ -10,6 +10,7 @@ use Rattle.connector_core.specs.State.{State}
 use Rattle.connector_core.specs.declared.asking.Ask.TheVariants as asks
 use Rattle.provisioning.specs.Exchanges.{Exchange, IsExchange, IsUnmade, opening_of, openings_of, outcome}
 use Rattle.provisioning.specs.Openings.{Opening}
+use Rattle.provisioning.specs.Services.{Service}
 use Rattle.provisioning.specs.declared.faults.RunFault.{RunFault}
 use Rattle.provisioning.specs.declared.faults.RecordFault.{RecordFault}
 use Rattle.provisioning.specs.declared.faults.RecordFault.TheVariants.{NoSuchRecord}
@@ -28,13 +29,13 @@ abbrev pub most_exchanges : ℕ
 most_exchanges = 3
 
 module _ {I O J : Type 0} (remaining : I → Option (List ℕ)) (contents : O → Option (List ℕ))
-    (g : Ghosts J) (base : List ℕ) (name : RecordName) where
+    (g : Ghosts J) (service : Service) (name : RecordName) where
   -- exchanges for a record, one after another, each on the connector that the one before left; none of them ended the
   -- run
   abbrev pub AreExchanges : List (Exchange I O) → (old new : State J) → Type 0
   AreExchanges [] old new = new ≡ old
   AreExchanges (e ∷ es) old new = (between : State J)
-      × IsExchange remaining contents g base name e old between × IsOk (outcome e.came) × AreExchanges es between new
+      × IsExchange remaining contents g service name e old between × IsOk (outcome e.came) × AreExchanges es between new
 
 -- the fault of the record
 abbrev pub fault_in : Result (Option RecordFault) RunFault → Option RecordFault
@@ -70,31 +71,31 @@ Stands book name count last standing = Rests book name standing ⊎ IsSpent book
 
 -- Exchanges for a record, each on a stream of its own, and the record's state after them
 pub record IsPushed {I O J : Type 0} (remaining : I → Option (List ℕ)) (contents : O → Option (List ℕ))
-    (g : Ghosts J) (base : List ℕ) (name : RecordName) (opened : List (Opening I O)) (old new : State J)
+    (g : Ghosts J) (service : Service) (name : RecordName) (opened : List (Opening I O)) (old new : State J)
     (pushed : Pushed) : Type 0 where
   pub exchanges : List (Exchange I O)
-  pub are : AreExchanges remaining contents g base name exchanges old new
+  pub are : AreExchanges remaining contents g service name exchanges old new
   pub opened_are : opened ≡ openings_of exchanges
   pub count : pushed.exchanges ≡ length exchanges
   pub most : length exchanges ≤ most_exchanges
   pub stands : Stands (book_of new.book) name pushed.exchanges (last_fault exchanges) pushed.standing
 
 -- the next exchange ended the run, or couldn't be made
-abbrev pub Ends : {I O J : Type 0} → (I → Option (List ℕ)) → (O → Option (List ℕ)) → Ghosts J → List ℕ
+abbrev pub Ends : {I O J : Type 0} → (I → Option (List ℕ)) → (O → Option (List ℕ)) → Ghosts J → Service
     → RecordName → (opened : List (Opening I O)) → (old new : State J) → RunFault → Type 0
-Ends {I} {O} remaining contents g base name opened old new fault =
+Ends {I} {O} remaining contents g service name opened old new fault =
     ((e : Exchange I O) × (opened ≡ opening_of e ∷ [])
-    × IsExchange remaining contents g base name e old new × (outcome e.came ≡ Err fault))
+    × IsExchange remaining contents g service name e old new × (outcome e.came ≡ Err fault))
     ⊎ ((new ≡ old) × IsUnmade opened fault)
 
 -- Exchanges for a record, until this fault ended the run
 pub record EndsRun {I O J : Type 0} (remaining : I → Option (List ℕ)) (contents : O → Option (List ℕ))
-    (g : Ghosts J) (base : List ℕ) (name : RecordName) (opened : List (Opening I O)) (old new : State J)
+    (g : Ghosts J) (service : Service) (name : RecordName) (opened : List (Opening I O)) (old new : State J)
     (fault : RunFault) : Type 0 where
   pub exchanges : List (Exchange I O)
   pub last : List (Opening I O)
   pub between : State J
-  pub are : AreExchanges remaining contents g base name exchanges old between
+  pub are : AreExchanges remaining contents g service name exchanges old between
   pub opened_are : opened ≡ openings_of exchanges ++ last
   pub most : length exchanges < most_exchanges
-  pub ends : Ends remaining contents g base name last between new fault
+  pub ends : Ends remaining contents g service name last between new fault

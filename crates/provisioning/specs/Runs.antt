@@ -9,6 +9,7 @@ use Rattle.connector_core.specs.State.{State}
 use Rattle.provisioning.specs.Lists.{Adds}
 use Rattle.provisioning.specs.Openings.{Opening}
 use Rattle.provisioning.specs.Records.{EndsRun, IsPushed, greatest_count}
+use Rattle.provisioning.specs.Services.{Service}
 use Rattle.provisioning.specs.Streaks.{IsGivenUp, go_on_after, streak_with}
 use Rattle.provisioning.specs.declared.faults.RunFault.{RunFault}
 use Rattle.provisioning.specs.declared.faults.RunFault.TheVariants.{Untold, Memory}
@@ -76,34 +77,34 @@ NeverGivesUp limit done = GoesOnAfterEach limit None done
 -- ---- the run
 
 module _ {I O J : Type 0} (remaining : I → Option (List ℕ)) (contents : O → Option (List ℕ))
-    (g : Ghosts J) (base : List ℕ) where
+    (g : Ghosts J) (service : Service) where
   -- these records, one after another, each on the connector that the one before left; the openings are theirs, in order
   abbrev pub AreDone : List Done → (opened : List (Opening I O)) → (old new : State J) → Type 0
   AreDone [] opened old new = (opened ≡ []) × (new ≡ old)
   AreDone (d ∷ done) opened old new =
       (first : List (Opening I O)) × (others : List (Opening I O)) × (between : State J)
-      × (opened ≡ first ++ others) × IsPushed remaining contents g base d.0 first old between d.1
+      × (opened ≡ first ++ others) × IsPushed remaining contents g service d.0 first old between d.1
       × AreDone done others between new
 
   -- the first of the other records ended the run
   abbrev pub EndsAt : List RecordName → (opened : List (Opening I O)) → (old new : State J) → RunFault → Type 0
   EndsAt [] opened old new fault = ⊥
-  EndsAt (name ∷ names) opened old new fault = EndsRun remaining contents g base name opened old new fault
+  EndsAt (name ∷ names) opened old new fault = EndsRun remaining contents g service name opened old new fault
 
 -- each of these records was done, reported and counted
 pub record AllDone {I O J : Type 0} (remaining : I → Option (List ℕ)) (contents : O → Option (List ℕ))
-    (g : Ghosts J) (base : List ℕ) (names : List RecordName) (opened : List (Opening I O))
+    (g : Ghosts J) (service : Service) (names : List RecordName) (opened : List (Opening I O))
     (old new : State J) (before after : Option (List Done)) (tally : Tally) : Type 0 where
   pub done : List Done
   pub names_are : map (λ d. d.0) done ≡ names
-  pub are : AreDone remaining contents g base done opened old new
+  pub are : AreDone remaining contents g service done opened old new
   pub tells : Tells before after done
   pub tally_is : tally ≡ tally_of done
 
 -- the first of these records were done, until the next one, or reporting the last of them, or a streak of this length,
 -- ended the run
 pub record PartDone {I O J : Type 0} (remaining : I → Option (List ℕ)) (contents : O → Option (List ℕ))
-    (g : Ghosts J) (base : List ℕ) (limit : ℕ) (names : List RecordName) (opened : List (Opening I O))
+    (g : Ghosts J) (service : Service) (limit : ℕ) (names : List RecordName) (opened : List (Opening I O))
     (old new : State J) (fault : RunFault) : Type 0 where
   pub done : List Done
   pub rest : List RecordName
@@ -112,24 +113,24 @@ pub record PartDone {I O J : Type 0} (remaining : I → Option (List ℕ)) (cont
   pub between : State J
   pub names_are : names ≡ map (λ d. d.0) done ++ rest
   pub opened_are : opened ≡ first ++ last
-  pub are : AreDone remaining contents g base done first old between
-  pub ends : EndsAt remaining contents g base rest last between new fault
+  pub are : AreDone remaining contents g service done first old between
+  pub ends : EndsAt remaining contents g service rest last between new fault
       ⊎ ((last ≡ []) × (new ≡ between) × (IsUntold fault ⊎ IsGivenUp limit fault))
 
 abbrev pub PushesEach : {I O J : Type 0} → (I → Option (List ℕ)) → (O → Option (List ℕ)) → Ghosts J
-    → List ℕ → (limit : ℕ) → List RecordName → (opened : List (Opening I O)) → (old new : State J)
+    → Service → (limit : ℕ) → List RecordName → (opened : List (Opening I O)) → (old new : State J)
     → (before after : Option (List Done)) → Result Tally RunFault → Type 0
-PushesEach remaining contents g base limit names opened old new before after (Ok tally) =
-    AllDone remaining contents g base names opened old new before after tally
-PushesEach remaining contents g base limit names opened old new before after (Err fault) =
-    PartDone remaining contents g base limit names opened old new fault
+PushesEach remaining contents g service limit names opened old new before after (Ok tally) =
+    AllDone remaining contents g service names opened old new before after tally
+PushesEach remaining contents g service limit names opened old new before after (Err fault) =
+    PartDone remaining contents g service limit names opened old new fault
 
 -- The records of the connector in the order in which they settle; or memory ran out before the first of them. The
 -- openings are those of their exchanges, in the order of the exchanges. No streak ends the run
 abbrev pub PushesAll : {I O J : Type 0} → (I → Option (List ℕ)) → (O → Option (List ℕ)) → Ghosts J
-    → List ℕ → (opened : List (Opening I O)) → (old new : State J) → (before after : Option (List Done))
+    → Service → (opened : List (Opening I O)) → (old new : State J) → (before after : Option (List Done))
     → Result Tally RunFault → Type 0
-PushesAll remaining contents g base opened old new before after result =
+PushesAll remaining contents g service opened old new before after result =
     ((names : List RecordName) × IsSettleOrder (keys old.book) names
-    × PushesEach remaining contents g base 0 names opened old new before after result)
+    × PushesEach remaining contents g service 0 names opened old new before after result)
     ⊎ ((opened ≡ []) × (result ≡ Err Memory) × (new ≡ old))

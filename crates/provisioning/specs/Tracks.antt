@@ -15,10 +15,12 @@ use Rattle.connector_core.specs.Book.{Book}
 use Rattle.connector_core.specs.Maps.{book_of}
 use Rattle.connector_core.specs.State.{State}
 use Rattle.connector_core.specs.declared.asking.Ask.TheVariants.{Send}
+use Rattle.connector_core.specs.declared.keeps.Keeps.{Keeps}
 use Rattle.provisioning.specs.Exchanges.{Becomes, Came, IsUnmade, answer_in, outcome}
 use Rattle.provisioning.specs.Faults.{open_fault}
 use Rattle.provisioning.specs.Openings.{Opening}
 use Rattle.provisioning.specs.Records.{Rests, most_exchanges}
+use Rattle.provisioning.specs.Services.{Service, written_for}
 use Rattle.provisioning.specs.declared.faults.RecordFault.{RecordFault}
 use Rattle.provisioning.specs.declared.faults.RecordFault.TheVariants as faults
 use Rattle.provisioning.specs.declared.faults.RunFault.{RunFault}
@@ -76,47 +78,49 @@ StandsAt book a standing = Rests book a.name standing ⊎ IsSpentAt book a stand
 
 -- ---- a request is sent
 
--- The request's text, which spells it, was written to the writer of this stream, as far as the flight says
+-- The text of the request as it is written for the service, which spells it, was written to the writer of this stream,
+-- as far as the flight says
 pub record IsSetOut {I O : Type 0}
-    (contents : O → Option (List ℕ)) (base : List ℕ) (request : Request) (stream : I × O)
+    (contents : O → Option (List ℕ)) (service : Service) (request : Request) (stream : I × O)
     (f : Flight I O) : Type 0 where
   pub written : Writing
   pub request_is : f.request ≡ request
   pub reader_is : f.reader ≡ stream.0
-  pub starts : Starts (text_of base request) (fresh_writing (contents stream.1)) written f.sent
-  pub spelled : SpellsSent base request (fresh_writing (contents stream.1)) written
+  pub starts : Starts (text_of service.base (written_for service.keeps request)) (fresh_writing (contents stream.1))
+      written f.sent
+  pub spelled : SpellsSent service.base (written_for service.keeps request) (fresh_writing (contents stream.1)) written
 
 -- A record with exchanges left: what the connector asks for as this book stands was sent on a new stream
 pub record SetsOut {I O : Type 0}
-    (contents : O → Option (List ℕ)) (base : List ℕ) (a : Account) (opened : List (Opening I O))
+    (contents : O → Option (List ℕ)) (service : Service) (a : Account) (opened : List (Opening I O))
     (book : Book) (later : Account)
     (f : Flight I O) : Type 0 where
   pub stream : I × O
   pub left : a.exchanges < most_exchanges
   pub asked : asking book a.name ≡ Some (Send f.request)
   pub opened_are : opened ≡ Ok stream ∷ []
-  pub set_out : IsSetOut contents base f.request stream f
+  pub set_out : IsSetOut contents service f.request stream f
   pub later_is : later ≡ counted a
 
 -- the request was sent on the stream that was opened; or the opening's error is the fault
-abbrev pub ComesOfOpening : {I O : Type 0} → (O → Option (List ℕ)) → List ℕ → Account → Request → Opening I O
+abbrev pub ComesOfOpening : {I O : Type 0} → (O → Option (List ℕ)) → Service → Account → Request → Opening I O
     → Result (Track I O) RunFault → Type 0
-ComesOfOpening {I} {O} contents base a request (Ok stream) result = (f : Flight I O)
-    × IsSetOut contents base request stream f × (result ≡ Ok (UnderWay (counted a) f))
-ComesOfOpening contents base a request (Err error) result = result ≡ Err (open_fault error)
+ComesOfOpening {I} {O} contents service a request (Ok stream) result = (f : Flight I O)
+    × IsSetOut contents service request stream f × (result ≡ Ok (UnderWay (counted a) f))
+ComesOfOpening contents service a request (Err error) result = result ≡ Err (open_fault error)
 
 -- a request is under way, or the record is done and nothing was opened; it isn't put off
-abbrev pub Begins : {I O : Type 0} → (O → Option (List ℕ)) → List ℕ → Account → (opened : List (Opening I O))
+abbrev pub Begins : {I O : Type 0} → (O → Option (List ℕ)) → Service → Account → (opened : List (Opening I O))
     → Book → Track I O → Type 0
-Begins contents base a opened book (UnderWay later f) = SetsOut contents base a opened book later f
-Begins contents base a opened book (Delayed later) = ⊥
-Begins contents base a opened book (Done later standing) = (opened ≡ []) × (later ≡ a) × StandsAt book a standing
+Begins contents service a opened book (UnderWay later f) = SetsOut contents service a opened book later f
+Begins contents service a opened book (Delayed later) = ⊥
+Begins contents service a opened book (Done later standing) = (opened ≡ []) × (later ≡ a) × StandsAt book a standing
 
 -- so; or exchanges are left, but the stream wasn't opened, or memory ran out before
-abbrev pub GoesOn : {I O : Type 0} → (O → Option (List ℕ)) → List ℕ → Account → (opened : List (Opening I O))
+abbrev pub GoesOn : {I O : Type 0} → (O → Option (List ℕ)) → Service → Account → (opened : List (Opening I O))
     → Book → Result (Track I O) RunFault → Type 0
-GoesOn contents base a opened book (Ok track) = Begins contents base a opened book track
-GoesOn contents base a opened book (Err fault) = (a.exchanges < most_exchanges) × IsUnmade opened fault
+GoesOn contents service a opened book (Ok track) = Begins contents service a opened book track
+GoesOn contents service a opened book (Err fault) = (a.exchanges < most_exchanges) × IsUnmade opened fault
 
 -- ---- its answer is read
 
@@ -136,29 +140,29 @@ IsHeard remaining request reader (Err fault) came = came ≡ Err fault
 
 -- The connector learns from what comes on the stream of the request
 pub record IsLearnt {I O J : Type 0}
-    (remaining : I → Option (List ℕ)) (g : Ghosts J) (f : Flight I O) (old new : State J)
+    (remaining : I → Option (List ℕ)) (g : Ghosts J) (keeps : Keeps) (f : Flight I O) (old new : State J)
     (result : Result (Option RecordFault) RunFault) : Type 0 where
   pub came : Came
   pub heard : IsHeard remaining f.request f.reader f.sent (answer_in came)
-  pub becomes : Becomes g f.request came old new
+  pub becomes : Becomes g keeps f.request came old new
   pub result_is : result ≡ outcome came
 
 -- ---- a record that was begun
 
 module _ {I O J : Type 0} (remaining : I → Option (List ℕ))
-    (contents : O → Option (List ℕ)) (g : Ghosts J) (base : List ℕ) where
+    (contents : O → Option (List ℕ)) (g : Ghosts J) (service : Service) where
   -- its answer is learnt from, and then it goes on
   pub record Continues (a : Account) (f : Flight I O) (opened : List (Opening I O)) (old new : State J)
       (result : Result (Track I O) RunFault) : Type 0 where
     pub fault : Option RecordFault
-    pub learnt : IsLearnt remaining g f old new (Ok fault)
-    pub goes_on : GoesOn contents base (faulted fault a) opened (book_of new.book) result
+    pub learnt : IsLearnt remaining g service.keeps f old new (Ok fault)
+    pub goes_on : GoesOn contents service (faulted fault a) opened (book_of new.book) result
 
   -- its answer, by which the provider is busy, is learnt from; then it waits
   pub record Delays (a : Account) (f : Flight I O) (opened : List (Opening I O)) (old new : State J)
       (result : Result (Track I O) RunFault) : Type 0 where
     pub fault : Option RecordFault
-    pub learnt : IsLearnt remaining g f old new (Ok fault)
+    pub learnt : IsLearnt remaining g service.keeps f old new (Ok fault)
     pub may : may_wait fault a ≡ true
     pub opened_none : opened ≡ []
     pub result_is : result ≡ Ok (Delayed (put_off (faulted fault a)))
@@ -166,7 +170,7 @@ module _ {I O J : Type 0} (remaining : I → Option (List ℕ))
   -- learning ended the run
   abbrev pub EndsLearning : (f : Flight I O) → (opened : List (Opening I O)) → (old new : State J)
       → (result : Result (Track I O) RunFault) → Type 0
-  EndsLearning f opened old new result = (end : RunFault) × IsLearnt remaining g f old new (Err end)
+  EndsLearning f opened old new result = (end : RunFault) × IsLearnt remaining g service.keeps f old new (Err end)
       × (opened ≡ []) × (result ≡ Err end)
 
   -- nothing happens
@@ -179,7 +183,7 @@ module _ {I O J : Type 0} (remaining : I → Option (List ℕ))
       → Result (Track I O) RunFault → Type 0
   Advances (UnderWay a f) opened old new result = Continues a f opened old new result
       ⊎ (Delays a f opened old new result ⊎ EndsLearning f opened old new result)
-  Advances (Delayed a) opened old new result = (new ≡ old) × GoesOn contents base a opened (book_of new.book) result
+  Advances (Delayed a) opened old new result = (new ≡ old) × GoesOn contents service a opened (book_of new.book) result
   Advances (Done a standing) opened old new result = Stays (Done a standing) opened old new result
 
   -- one step of a record, or none yet
@@ -195,10 +199,10 @@ module _ {I O J : Type 0} (remaining : I → Option (List ℕ))
   StepsWithin turns track opened old new (Err fault) = Advances track opened old new (Err fault)
 
 -- the last of a record: its answer, if one is under way, is learnt from
-abbrev pub Closes : {I O J : Type 0} → (I → Option (List ℕ)) → Ghosts J → Track I O → (old new : State J)
+abbrev pub Closes : {I O J : Type 0} → (I → Option (List ℕ)) → Ghosts J → Keeps → Track I O → (old new : State J)
     → Result (Unit {0}) RunFault → Type 0
-Closes remaining g (UnderWay a f) old new (Ok done) = (fault : Option RecordFault)
-    × IsLearnt remaining g f old new (Ok fault)
-Closes remaining g (UnderWay a f) old new (Err fault) = IsLearnt remaining g f old new (Err fault)
-Closes remaining g (Delayed a) old new result = (new ≡ old) × (result ≡ Ok tt)
-Closes remaining g (Done a standing) old new result = (new ≡ old) × (result ≡ Ok tt)
+Closes remaining g keeps (UnderWay a f) old new (Ok done) = (fault : Option RecordFault)
+    × IsLearnt remaining g keeps f old new (Ok fault)
+Closes remaining g keeps (UnderWay a f) old new (Err fault) = IsLearnt remaining g keeps f old new (Err fault)
+Closes remaining g keeps (Delayed a) old new result = (new ≡ old) × (result ≡ Ok tt)
+Closes remaining g keeps (Done a standing) old new result = (new ≡ old) × (result ≡ Ok tt)

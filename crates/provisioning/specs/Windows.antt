@@ -5,9 +5,11 @@ use Rattle.journal_core.specs.declared.journals.Journal.{Ghosts}
 use Rattle.connector_core.specs.Book.{Book}
 use Rattle.connector_core.specs.Maps.{book_of}
 use Rattle.connector_core.specs.State.{State}
+use Rattle.connector_core.specs.declared.keeps.Keeps.{Keeps}
 use Rattle.provisioning.specs.Exchanges.{IsUnmade}
 use Rattle.provisioning.specs.Openings.{Opening}
 use Rattle.provisioning.specs.Runs.{Done, IsUntold, NeverGivesUp, Tells, streak_of, tally_of}
+use Rattle.provisioning.specs.Services.{Service}
 use Rattle.provisioning.specs.Streaks.{go_on_after}
 use Rattle.provisioning.specs.Tracks.{Advances, Begins, Closes, IsLearnt, fresh, faulted, may_wait, put_off}
 use Rattle.provisioning.specs.declared.faults.RecordFault.{RecordFault}
@@ -63,12 +65,12 @@ abbrev pub at_start : {I O J : Type 0} → List RecordName → State J → Scene
 at_start names state = record { waiting = names; tracks = []; state = state }
 
 -- each answer that is under way is learnt from, one after another
-abbrev pub LooksThrough : {I O J : Type 0} → (I → Option (List ℕ)) → Ghosts J → List (Track I O)
+abbrev pub LooksThrough : {I O J : Type 0} → (I → Option (List ℕ)) → Ghosts J → Keeps → List (Track I O)
     → (old new : State J) → Type 0
-LooksThrough remaining g [] old new = new ≡ old
-LooksThrough {J = J} remaining g (track ∷ tracks) old new =
-    (result : Result (Unit {0}) RunFault) × (between : State J) × Closes remaining g track old between result
-    × LooksThrough remaining g tracks between new
+LooksThrough remaining g keeps [] old new = new ≡ old
+LooksThrough {J = J} remaining g keeps (track ∷ tracks) old new =
+    (result : Result (Unit {0}) RunFault) × (between : State J) × Closes remaining g keeps track old between result
+    × LooksThrough remaining g keeps tracks between new
 
 -- ---- how many records
 
@@ -81,7 +83,7 @@ abbrev pub window_of : (streams : ℕ) → ℕ
 window_of streams = suc (beside streams)
 
 module _ {I O J : Type 0} (remaining : I → Option (List ℕ))
-    (contents : O → Option (List ℕ)) (g : Ghosts J) (base : List ℕ) (window : ℕ) where
+    (contents : O → Option (List ℕ)) (g : Ghosts J) (service : Service) (window : ℕ) where
   -- ---- one move
 
   -- the first record that waits is begun, if fewer than `window` were begun and aren't reported
@@ -91,7 +93,7 @@ module _ {I O J : Type 0} (remaining : I → Option (List ℕ))
     pub room : length old.tracks < window
     pub waiting : old.waiting ≡ name ∷ new.waiting
     pub tracks : IsWith track old.tracks new.tracks
-    pub begins : Begins contents base (fresh name) opened (book_of old.state.book) track
+    pub begins : Begins contents service (fresh name) opened (book_of old.state.book) track
     pub told_none : told ≡ []
     pub state : new.state ≡ old.state
 
@@ -104,8 +106,8 @@ module _ {I O J : Type 0} (remaining : I → Option (List ℕ))
     pub others : List (Track I O)
     pub before : IsWith (phases.UnderWay account flight) others old.tracks
     pub after : IsWith track others new.tracks
-    pub learnt : IsLearnt remaining g flight old.state new.state (Ok fault)
-    pub begins : Begins contents base (faulted fault account) opened (book_of new.state.book) track
+    pub learnt : IsLearnt remaining g service.keeps flight old.state new.state (Ok fault)
+    pub begins : Begins contents service (faulted fault account) opened (book_of new.state.book) track
     pub told_none : told ≡ []
     pub waiting : new.waiting ≡ old.waiting
 
@@ -117,7 +119,7 @@ module _ {I O J : Type 0} (remaining : I → Option (List ℕ))
     pub others : List (Track I O)
     pub before : IsWith (phases.UnderWay account flight) others old.tracks
     pub after : IsWith (phases.Delayed (put_off (faulted fault account))) others new.tracks
-    pub learnt : IsLearnt remaining g flight old.state new.state (Ok fault)
+    pub learnt : IsLearnt remaining g service.keeps flight old.state new.state (Ok fault)
     pub may : may_wait fault account ≡ true
     pub opened_none : opened ≡ []
     pub told_none : told ≡ []
@@ -130,7 +132,7 @@ module _ {I O J : Type 0} (remaining : I → Option (List ℕ))
     pub others : List (Track I O)
     pub before : IsWith (phases.Delayed account) others old.tracks
     pub after : IsWith track others new.tracks
-    pub begins : Begins contents base account opened (book_of old.state.book) track
+    pub begins : Begins contents service account opened (book_of old.state.book) track
     pub told_none : told ≡ []
     pub state : new.state ≡ old.state
     pub waiting : new.waiting ≡ old.waiting
@@ -189,7 +191,7 @@ module _ {I O J : Type 0} (remaining : I → Option (List ℕ))
   Causes last scene rest new fault =
       ((rest ≡ scene.tracks) × (new ≡ scene.state) × IsUnbegun last scene fault)
       ⊎ (((track : Track I O) × IsWith track rest scene.tracks
-      × Advances remaining contents g base track last scene.state new (Err fault))
+      × Advances remaining contents g service track last scene.state new (Err fault))
       ⊎ ((account : Account) × (standing : Standing) × IsWith (phases.Done account standing) rest scene.tracks
       × (last ≡ []) × (new ≡ scene.state) × IsUntold fault))
 
@@ -244,7 +246,7 @@ module _ {I O J : Type 0} (remaining : I → Option (List ℕ))
   abbrev pub Leaves : (opened : List (Opening I O)) → (told : List Done) → (old new : Scene I O J) → RunFault → Type 0
   Leaves opened told old new fault =
       (front : List (Track I O)) × (between : State J) × Stops opened told old (front ++ new.tracks) between fault
-      × LooksThrough remaining g front between new.state
+      × LooksThrough remaining g service.keeps front between new.state
 
   -- the first record is done
   pub record IsFinished (opened : List (Opening I O)) (first : Track I O) (old new : Scene I O J)
@@ -298,7 +300,7 @@ module _ {I O J : Type 0} (remaining : I → Option (List ℕ))
     pub rest : List (Track I O)
     pub between : State J
     pub breaks : Breaks limit opened done (at_start names old) rest between fault
-    pub looked : LooksThrough remaining g rest between new
+    pub looked : LooksThrough remaining g service.keeps rest between new
 
   abbrev pub PushesAbreast : (limit : ℕ) → (names : List RecordName) → (opened : List (Opening I O))
       → (old new : State J) → (before after : Option (List Done)) → Result Tally RunFault → Type 0
@@ -313,17 +315,17 @@ abbrev pub scene_of : {I O J : Type 0} → Window I O → State J → Scene I O 
 scene_of window state = record { waiting = window.waiting.items; tracks = window.tracks.items; state = state }
 
 -- the first of the names that wait was begun; or none waits; or it couldn't be begun
-abbrev pub BeginsNext : {I O : Type 0} → (O → Option (List ℕ)) → List ℕ → (opened : List (Opening I O))
+abbrev pub BeginsNext : {I O : Type 0} → (O → Option (List ℕ)) → Service → (opened : List (Opening I O))
     → (waiting later : List RecordName) → Book → Result (Option (Track I O)) RunFault → Type 0
-BeginsNext contents base opened waiting later book (Ok (Some track)) = (name : RecordName)
-    × (waiting ≡ name ∷ later) × Begins contents base (fresh name) opened book track
-BeginsNext contents base opened waiting later book (Ok None) = (opened ≡ []) × (waiting ≡ []) × (later ≡ [])
-BeginsNext contents base opened waiting later book (Err fault) = (name : RecordName)
+BeginsNext contents service opened waiting later book (Ok (Some track)) = (name : RecordName)
+    × (waiting ≡ name ∷ later) × Begins contents service (fresh name) opened book track
+BeginsNext contents service opened waiting later book (Ok None) = (opened ≡ []) × (waiting ≡ []) × (later ≡ [])
+BeginsNext contents service opened waiting later book (Err fault) = (name : RecordName)
     × (waiting ≡ name ∷ later) × IsUnmade opened fault
 
 -- a record is given back; or after a fault it was closed
-abbrev pub Keeps : {I O J : Type 0} → (I → Option (List ℕ)) → Ghosts J → Track I O
+abbrev pub KeepsTrack : {I O J : Type 0} → (I → Option (List ℕ)) → Ghosts J → Keeps → Track I O
     → (beside : Result (Unit {0}) RunFault) → (old new : State J) → Result (Track I O) RunFault → Type 0
-Keeps remaining g track (Ok done) old new result = (new ≡ old) × (result ≡ Ok track)
-Keeps remaining g track (Err fault) old new result = (closed : Result (Unit {0}) RunFault)
-    × Closes remaining g track old new closed × (result ≡ Err fault)
+KeepsTrack remaining g keeps track (Ok done) old new result = (new ≡ old) × (result ≡ Ok track)
+KeepsTrack remaining g keeps track (Err fault) old new result = (closed : Result (Unit {0}) RunFault)
+    × Closes remaining g keeps track old new closed × (result ≡ Err fault)

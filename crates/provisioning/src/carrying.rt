@@ -8,11 +8,11 @@ use crate::faults::RunFault;
 use crate::offering::{Hear, offer_all};
 use crate::paces::{IN_TURN, Pace, push_at};
 use crate::pushing::Tally;
+use crate::services::ServiceProvider;
 use crate::sources::Sources;
 use crate::telling::Tell;
 use connector_core::Connector;
 use journal_core::Journal;
-use scim_client::ScimService;
 use std::alloc::Global;
 
 /// The result of a run that no fault ended.
@@ -38,7 +38,7 @@ impl Outcome {
 /// as soon as the record is done.
 pub fn carry<J: Journal, D: Dial, T: Hear + Tell>(
     alloc: Global,
-    service: &ScimService,
+    service: &ServiceProvider<'_>,
     connector: &mut Connector<J>,
     sources: &Sources,
     dial: &mut D,
@@ -54,7 +54,7 @@ pub fn carry<J: Journal, D: Dial, T: Hear + Tell>(
 /// The same, but it pushes the records at a pace.
 pub fn carry_at<J: Journal, D: Dial, T: Hear + Tell>(
     alloc: Global,
-    service: &ScimService,
+    service: &ServiceProvider<'_>,
     connector: &mut Connector<J>,
     sources: &Sources,
     dial: &mut D,

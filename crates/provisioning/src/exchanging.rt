@@ -6,7 +6,7 @@ use crate::dialing::Dial;
 use crate::explaining::Failed;
 use crate::faults::{RecordFault, RunFault, unanswered, unlearnt};
 use crate::recording::Heard;
-use connector_core::Connector;
+use connector_core::{Connector, Keeps};
 use journal_core::Journal;
 use scim_client::ExchangeFault;
 use scim_key::RecordName;
@@ -16,6 +16,7 @@ use std::alloc::Global;
 /// Has the fault of an exchange explained, if it had one.
 pub(crate) fn explain<'x, J: Journal, D: Dial>(
     alloc: Global,
+    keeps: Keeps,
     connector: &'x Connector<J>,
     dial: &D,
     name: &'x RecordName,
@@ -34,6 +35,7 @@ pub(crate) fn explain<'x, J: Journal, D: Dial>(
             answer: answer_in(came),
             wanted: connector.wanted(name),
             id: connector.id(name),
+            keeps,
         };
         dial.explain(&failed);
     }
@@ -47,16 +49,17 @@ fn answer_in(came: &Result<Answer, ExchangeFault>) -> Option<&Answer> {
     }
 }
 
-/// Takes the result of an exchange.
+/// Takes the result of an exchange with a service of this kind.
 pub(crate) fn take<J: Journal>(
     connector: &mut Connector<J>,
+    keeps: Keeps,
     request: &Request,
     came: &Result<Answer, ExchangeFault>,
 ) -> Result<Option<RecordFault>, RunFault>
-    ensures { IsTaken J.Journal request.now came.now connector.old connector.new result }
+    ensures { IsTaken J.Journal keeps request.now came.now connector.old connector.new result }
 {
     match came {
-        Ok(answer) => learn(connector, request, answer),
+        Ok(answer) => learn(connector, keeps, request, answer),
         Err(fault) => unanswered(*fault),
     }
 }
@@ -64,12 +67,13 @@ pub(crate) fn take<J: Journal>(
 /// Learns from an answer.
 fn learn<J: Journal>(
     connector: &mut Connector<J>,
+    keeps: Keeps,
     request: &Request,
     answer: &Answer,
 ) -> Result<Option<RecordFault>, RunFault>
-    ensures { IsTaken J.Journal request.now (Ok answer.now) connector.old connector.new result }
+    ensures { IsTaken J.Journal keeps request.now (Ok answer.now) connector.old connector.new result }
 {
-    match connector.learn(request, answer) {
+    match connector.learn(keeps, request, answer) {
         Ok(_) => Ok(None),
         Err(fault) => unlearnt(fault),
     }

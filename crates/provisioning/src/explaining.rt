@@ -6,6 +6,8 @@ use crate::heads::Head;
 use crate::losses::{Loss, cut, unread, unsent};
 use crate::misreadings::misread;
 use crate::recording::Heard;
+use comparing::is_active;
+use connector_core::Keeps;
 use scim_client::ExchangeFault;
 use scim_key::{RecordName, ResourceId, Revision};
 use scim_message::{Answer, ErrorResponse, ListResponse, Request};
@@ -27,6 +29,8 @@ pub struct Failed<'a> {
     pub wanted: Revision,
     /// The id, if one is known.
     pub id: Option<&'a ResourceId>,
+    /// What the provider keeps of what it is sent.
+    pub keeps: Keeps,
 }
 
 /// What the fault of an exchange was. `None` if nothing more can be said of it.
@@ -131,7 +135,7 @@ fn unfit(failed: &Failed<'_>, shown: &Shown) -> Result<Explanation, AllocError> 
         Some(known) if known.as_str() != shown.id().as_str() => {
             other_id(failed.alloc, shown.id(), known)
         }
-        _ => Ok(unfit_revision(failed.wanted, content.revision())),
+        _ => Ok(unfit_content(failed, content)),
     }
 }
 
@@ -152,6 +156,16 @@ fn other_id(
     let shown = Excerpt::of(alloc, shown.as_str().as_bytes())?;
     let known = Excerpt::of(alloc, known.as_str().as_bytes())?;
     Ok(Explanation::OtherId { shown, known })
+}
+
+/// Why a resource with this content isn't the record's.
+fn unfit_content(failed: &Failed<'_>, content: &Content) -> Explanation {
+    match failed.keeps {
+        Keeps::Revisions => unfit_revision(failed.wanted, content.revision()),
+        Keeps::Versions => Explanation::Activity {
+            shown: is_active(content),
+        },
+    }
 }
 
 /// Why a resource with this revision isn't the record's.

@@ -57,6 +57,10 @@ pub enum Explanation {
         total: u64,
         listed: usize,
     },
+    /// The resource is active, and the other was asked; or the other way round (C1).
+    Activity {
+        shown: bool,
+    },
     /// The resource has a higher revision than the wanted one (C1).
     Above {
         shown: Revision,
@@ -108,6 +112,13 @@ impl fmt::Display for Explanation {
                 write!(f, "another id, \"{shown}\" in place of \"{known}\"")
             }
             Explanation::Found { total, listed } => write!(f, "{total} found, {listed} listed"),
+            Explanation::Activity { shown } => {
+                write!(
+                    f,
+                    "active is {shown}, and {asked} was asked",
+                    asked = !shown
+                )
+            }
             Explanation::Above { shown, wanted } => {
                 write!(f, "revision {shown} is above the wanted {wanted}")
             }

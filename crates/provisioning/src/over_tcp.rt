@@ -9,13 +9,13 @@ use crate::lines::Lines;
 use crate::offering::Hear;
 use crate::paces::Pace;
 use crate::quiet::QuietLines;
+use crate::services::ServiceProvider;
 use crate::sockets::Remote;
 use crate::sources::Sources;
 use crate::telling::Tell;
 use crate::watching::{Explained, Explaining};
 use connector_core::Connector;
 use journal_core::Journal;
-use scim_client::ScimService;
 use std::alloc::Global;
 use std::cell::Cell;
 use std::io::{Eprint, Read, Write};
@@ -29,7 +29,7 @@ use timed_streams::TimedHandle;
 pub fn push<'a, N: Net + Clock + Eprint, J: Journal, W: Write>(
     rt: &'a N,
     alloc: Global,
-    service: &ScimService,
+    service: &ServiceProvider<'_>,
     connector: &mut Connector<J>,
     sources: &Sources,
     pace: Pace,
@@ -50,7 +50,7 @@ pub fn push<'a, N: Net + Clock + Eprint, J: Journal, W: Write>(
 pub fn push_quietly<'a, N: Net + Clock + Eprint, J: Journal, W: Write>(
     rt: &'a N,
     alloc: Global,
-    service: &ScimService,
+    service: &ServiceProvider<'_>,
     connector: &mut Connector<J>,
     sources: &Sources,
     pace: Pace,
@@ -70,7 +70,7 @@ pub fn push_quietly<'a, N: Net + Clock + Eprint, J: Journal, W: Write>(
 fn carry_to<'a, N: Net + Clock + Eprint, J: Journal, T: Hear + Tell + Drop>(
     rt: &'a N,
     alloc: Global,
-    service: &ScimService,
+    service: &ServiceProvider<'_>,
     connector: &mut Connector<J>,
     sources: &Sources,
     pace: Pace,

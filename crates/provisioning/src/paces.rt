@@ -11,11 +11,11 @@ use crate::dialing::Dial;
 use crate::faults::RunFault;
 use crate::orders::push_order;
 use crate::pushing::Tally;
+use crate::services::ServiceProvider;
 use crate::telling::Tell;
 use crate::windows::push_abreast;
 use connector_core::Connector;
 use journal_core::Journal;
-use scim_client::ScimService;
 use scim_key::{Kind, RecordName};
 use std::alloc::Global;
 use std::collections::VecDeque;
@@ -48,7 +48,7 @@ pub(crate) const IN_TURN: Pace = Pace {
 /// up; then it learns from the answers that are under way.
 pub fn push_at<J: Journal, D: Dial, T: Tell>(
     alloc: Global,
-    service: &ScimService,
+    service: &ServiceProvider<'_>,
     connector: &mut Connector<J>,
     dial: &mut D,
     teller: &mut T,
@@ -91,7 +91,7 @@ fn users_in(names: &[RecordName]) -> usize
 /// Makes exchanges for users, and then for groups.
 fn push_both<J: Journal, D: Dial, T: Tell>(
     alloc: Global,
-    service: &ScimService,
+    service: &ServiceProvider<'_>,
     connector: &mut Connector<J>,
     dial: &mut D,
     teller: &mut T,

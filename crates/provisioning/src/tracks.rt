@@ -11,10 +11,11 @@ use crate::exchanging::{explain, take};
 use crate::faults::{RecordFault, RunFault, open_fault};
 use crate::recording::{Heard, Recording};
 use crate::records::{Standing, standing_after};
+use crate::services::{ServiceProvider, send_to};
 use connector_core::{Ask, AskFault, Connector, MOST_EXCHANGES};
 use http_text::{Input, Output};
 use journal_core::Journal;
-use scim_client::{ExchangeFault, ScimService, read_reply};
+use scim_client::{ExchangeFault, read_reply};
 use scim_key::RecordName;
 use scim_message::{Answer, Request};
 use std::alloc::Global;
@@ -68,7 +69,7 @@ impl Account {
 /// exchanges left.
 pub(crate) fn go_on<J: Journal, D: Dial>(
     alloc: Global,
-    service: &ScimService,
+    service: &ServiceProvider<'_>,
     connector: &Connector<J>,
     dial: &mut D,
     account: Account,
@@ -95,7 +96,7 @@ fn spent<J: Journal>(connector: &Connector<J>, account: &Account) -> Standing
 /// Sends the connector's next request for a record on a new stream, if there is one.
 fn ask<J: Journal, D: Dial>(
     alloc: Global,
-    service: &ScimService,
+    service: &ServiceProvider<'_>,
     connector: &Connector<J>,
     dial: &mut D,
     account: Account,
@@ -122,7 +123,7 @@ fn ask<J: Journal, D: Dial>(
 /// Opens a stream and sends a request for a record on it.
 fn set_out<D: Dial>(
     alloc: Global,
-    service: &ScimService,
+    service: &ServiceProvider<'_>,
     dial: &mut D,
     account: Account,
     request: Request,
@@ -162,7 +163,7 @@ fn counted(account: Account) -> Account
 /// Sends a request on a stream.
 pub fn send_on<R: Read + Drop, W: Write + Drop>(
     alloc: Global,
-    service: &ScimService,
+    service: &ServiceProvider<'_>,
     request: Request,
     reader: R,
     writer: W,
@@ -170,7 +171,7 @@ pub fn send_on<R: Read + Drop, W: Write + Drop>(
     ensures { IsSetOut W.contents service.now request (reader, writer) result }
 {
     let mut output = Output::new(writer);
-    let sent = service.send_request(alloc, &request, &mut output);
+    let (request, sent) = send_to(alloc, service, request, &mut output);
     Flight {
         request,
         reader,
@@ -183,12 +184,14 @@ pub fn send_on<R: Read + Drop, W: Write + Drop>(
 /// fault of the record, if there is one, and what came on the stream.
 fn learn_from<J: Journal, D: Dial>(
     alloc: Global,
+    service: &ServiceProvider<'_>,
     connector: &mut Connector<J>,
     dial: &D,
     name: &RecordName,
     flight: Flight<D::Reader, D::Writer>,
 ) -> (Result<Option<RecordFault>, RunFault>, Heard)
-    ensures { IsLearnt D.Reader.remaining J.Journal flight connector.old connector.new result.0 }
+    ensures { IsLearnt D.Reader.remaining J.Journal service.now.keeps flight
+        connector.old connector.new result.0 }
 {
     let Flight {
         request,
@@ -199,8 +202,11 @@ fn learn_from<J: Journal, D: Dial>(
     let (came, recording) = hear(alloc, &request, reader, sent);
     let Recording { reader, heard } = recording;
     dial.end(reader, writer);
-    let taken = take(connector, &request, &came);
-    explain(alloc, connector, dial, name, &request, &heard, &came, taken);
+    let keeps = service.keeps;
+    let taken = take(connector, keeps, &request, &came);
+    explain(
+        alloc, keeps, connector, dial, name, &request, &heard, &came, taken,
+    );
     (taken, heard)
 }
 
@@ -227,7 +233,7 @@ pub fn hear<R: Read + Drop>(
 /// one and it needn't wait. For a record that waited, it sends the next request.
 pub(crate) fn advance<J: Journal, D: Dial>(
     alloc: Global,
-    service: &ScimService,
+    service: &ServiceProvider<'_>,
     connector: &mut Connector<J>,
     dial: &mut D,
     track: Track<D::Reader, D::Writer>,
@@ -238,7 +244,8 @@ pub(crate) fn advance<J: Journal, D: Dial>(
 {
     match track {
         Track::UnderWay(account, flight) => {
-            let (learnt, heard) = learn_from(alloc, connector, dial, &account.name, flight);
+            let name = &account.name;
+            let (learnt, heard) = learn_from(alloc, service, connector, dial, name, flight);
             let fault = learnt?;
             if may_wait(&account, fault) && dial.puts_off(&account.name, &heard) {
                 return Ok(Track::Delayed(put_off(faulted(account, fault))));
@@ -253,7 +260,7 @@ pub(crate) fn advance<J: Journal, D: Dial>(
 /// The same, but a record that waits and isn't due stays as it is.
 pub(crate) fn advance_if_due<J: Journal, D: Dial>(
     alloc: Global,
-    service: &ScimService,
+    service: &ServiceProvider<'_>,
     connector: &mut Connector<J>,
     dial: &mut D,
     track: Track<D::Reader, D::Writer>,
@@ -330,15 +337,17 @@ fn faulted(account: Account, fault: Option<RecordFault>) -> Account
 /// Learns from the answer of a record that is under way, and sends nothing more.
 pub(crate) fn close<J: Journal, D: Dial>(
     alloc: Global,
+    service: &ServiceProvider<'_>,
     connector: &mut Connector<J>,
     dial: &D,
     track: Track<D::Reader, D::Writer>,
 ) -> Result<(), RunFault>
-    ensures { Closes D.Reader.remaining J.Journal track connector.old connector.new result }
+    ensures { Closes D.Reader.remaining J.Journal service.now.keeps track
+        connector.old connector.new result }
 {
     match track {
         Track::UnderWay(begun, flight) => {
-            let (learnt, _) = learn_from(alloc, connector, dial, &begun.name, flight);
+            let (learnt, _) = learn_from(alloc, service, connector, dial, &begun.name, flight);
             match learnt {
                 Ok(_) => Ok(()),
                 Err(fault) => Err(fault),

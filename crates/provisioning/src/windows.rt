@@ -4,18 +4,18 @@ ghost use Rattle.std.specs.VecDeque.{deque_capacity, deque_len};
 ghost use Rattle.connector_core.specs.Maps.{book_of};
 ghost use Rattle.provisioning.specs.Openings.{Opens};
 ghost use Rattle.provisioning.specs.Tracks.{StepsWithin};
-ghost use Rattle.provisioning.specs.Windows.{BeginsNext, Finishes, Goes, Keeps, LooksThrough, PushesAbreast, PushesThrough, TakesFirst, beside, done_of, scene_of, window_of};
+ghost use Rattle.provisioning.specs.Windows.{BeginsNext, Finishes, Goes, KeepsTrack, LooksThrough, PushesAbreast, PushesThrough, TakesFirst, beside, done_of, scene_of, window_of};
 
 use crate::dialing::Dial;
 use crate::faults::RunFault;
 use crate::pushing::{Tally, tell};
 use crate::records::{Pushed, Standing};
+use crate::services::ServiceProvider;
 use crate::streaks::{go_on_after, streak_with};
 use crate::telling::Tell;
 use crate::tracks::{Account, Track, advance, advance_if_due, close, go_on, waits};
 use connector_core::Connector;
 use journal_core::Journal;
-use scim_client::ScimService;
 use scim_key::RecordName;
 use std::alloc::Global;
 use std::collections::VecDeque;
@@ -40,7 +40,7 @@ pub(crate) struct Window<R: Drop, W: Drop> {
 /// row that met the same obstacle. After a fault it learns from the answers that are under way.
 pub(crate) fn push_abreast<J: Journal, D: Dial, T: Tell>(
     alloc: Global,
-    service: &ScimService,
+    service: &ServiceProvider<'_>,
     connector: &mut Connector<J>,
     dial: &mut D,
     teller: &mut T,
@@ -66,7 +66,7 @@ pub(crate) fn push_abreast<J: Journal, D: Dial, T: Tell>(
         streams,
         limit,
     );
-    look_through(alloc, connector, dial, &mut window.tracks);
+    look_through(alloc, service, connector, dial, &mut window.tracks);
     pushed
 }
 
@@ -74,7 +74,7 @@ pub(crate) fn push_abreast<J: Journal, D: Dial, T: Tell>(
 /// that were begun are left.
 fn push_through<J: Journal, D: Dial, T: Tell>(
     alloc: Global,
-    service: &ScimService,
+    service: &ServiceProvider<'_>,
     connector: &mut Connector<J>,
     dial: &mut D,
     teller: &mut T,
@@ -105,7 +105,7 @@ fn push_through<J: Journal, D: Dial, T: Tell>(
 /// The first record that isn't reported, if there is one.
 fn first_track<J: Journal, D: Dial>(
     alloc: Global,
-    service: &ScimService,
+    service: &ServiceProvider<'_>,
     connector: &Connector<J>,
     dial: &mut D,
     window: &mut Window<D::Reader, D::Writer>,
@@ -123,7 +123,7 @@ fn first_track<J: Journal, D: Dial>(
 /// Begins the first record that waits, if there is one.
 fn begin<J: Journal, D: Dial>(
     alloc: Global,
-    service: &ScimService,
+    service: &ServiceProvider<'_>,
     connector: &Connector<J>,
     dial: &mut D,
     waiting: &mut VecDeque<RecordName>,
@@ -145,7 +145,7 @@ fn begin<J: Journal, D: Dial>(
 /// until one is due.
 fn finish<J: Journal, D: Dial>(
     alloc: Global,
-    service: &ScimService,
+    service: &ServiceProvider<'_>,
     connector: &mut Connector<J>,
     dial: &mut D,
     window: &mut Window<D::Reader, D::Writer>,
@@ -160,7 +160,7 @@ fn finish<J: Journal, D: Dial>(
     let mut turns = TURNS_WHILE_WAITING;
     loop {
         let filled = fill(alloc, service, connector, dial, window, streams);
-        first = keep(alloc, connector, dial, first, filled)?;
+        first = keep(alloc, service, connector, dial, first, filled)?;
         rest(dial, &first, &window.tracks);
         let (track, left) = advance_first(alloc, service, connector, dial, first, turns)?;
         first = match track {
@@ -169,7 +169,7 @@ fn finish<J: Journal, D: Dial>(
         };
         turns = left;
         let advanced = advance_others(alloc, service, connector, dial, window);
-        first = keep(alloc, connector, dial, first, advanced)?;
+        first = keep(alloc, service, connector, dial, first, advanced)?;
     }
 }
 
@@ -188,7 +188,7 @@ fn rest<D: Dial>(
 /// are left.
 fn advance_first<J: Journal, D: Dial>(
     alloc: Global,
-    service: &ScimService,
+    service: &ServiceProvider<'_>,
     connector: &mut Connector<J>,
     dial: &mut D,
     first: Track<D::Reader, D::Writer>,
@@ -226,17 +226,19 @@ fn done(account: Account, standing: Standing) -> (RecordName, Pushed)
 /// Gives the first record back. After a fault beside it, its answer is learnt from instead.
 fn keep<J: Journal, D: Dial>(
     alloc: Global,
+    service: &ServiceProvider<'_>,
     connector: &mut Connector<J>,
     dial: &D,
     first: Track<D::Reader, D::Writer>,
     beside: Result<(), RunFault>,
 ) -> Result<Track<D::Reader, D::Writer>, RunFault>
-    ensures { Keeps D.Reader.remaining J.Journal first beside connector.old connector.new result }
+    ensures { KeepsTrack D.Reader.remaining J.Journal service.now.keeps first beside
+        connector.old connector.new result }
 {
     match beside {
         Ok(()) => Ok(first),
         Err(fault) => {
-            let _ = close(alloc, connector, dial, first);
+            let _ = close(alloc, service, connector, dial, first);
             Err(fault)
         }
     }
@@ -245,7 +247,7 @@ fn keep<J: Journal, D: Dial>(
 /// Advances each record that was begun, unless it waits, and begins none.
 fn advance_others<J: Journal, D: Dial>(
     alloc: Global,
-    service: &ScimService,
+    service: &ServiceProvider<'_>,
     connector: &mut Connector<J>,
     dial: &mut D,
     window: &mut Window<D::Reader, D::Writer>,
@@ -267,7 +269,7 @@ fn advance_others<J: Journal, D: Dial>(
 /// Begins records, until with one more `streams` are under way, or the window is full.
 fn fill<J: Journal, D: Dial>(
     alloc: Global,
-    service: &ScimService,
+    service: &ServiceProvider<'_>,
     connector: &Connector<J>,
     dial: &mut D,
     window: &mut Window<D::Reader, D::Writer>,
@@ -327,14 +329,15 @@ fn is_under_way<R: Read + Drop, W: Write + Drop>(tracks: &VecDeque<Track<R, W>>)
 /// Learns from each answer that is under way. A fault is passed over.
 fn look_through<J: Journal, D: Dial>(
     alloc: Global,
+    service: &ServiceProvider<'_>,
     connector: &mut Connector<J>,
     dial: &D,
     tracks: &mut VecDeque<Track<D::Reader, D::Writer>>,
 )
-    ensures { LooksThrough D.Reader.remaining J.Journal tracks.old.items
+    ensures { LooksThrough D.Reader.remaining J.Journal service.now.keeps tracks.old.items
         connector.old connector.new }
 {
     while let Some(track) = tracks.pop_front() {
-        let _ = close(alloc, connector, dial, track);
+        let _ = close(alloc, service, connector, dial, track);
     }
 }

@@ -1,6 +1,8 @@
-use Rattle.std.proofs.Common.{[], ◌∷◌, Ok, refl, sym, ◌∙◌}
+use Rattle.std.proofs.Common.{◌≡◌, [], ◌∷◌, Ok, refl, subst, sym, ◌∙◌}
 use Rattle.std.proofs.lemmas.Result.{err_from_is_err_and}
 use Rattle.connector_core.specs.Maps.{book_of}
+use Rattle.provisioning.specs.Services.{Service}
+use Rattle.checking.specs.Findings.{looking}
 use Rattle.checking.proofs.CheckLemmas.{unsent}
 use Rattle.checking.proofs.begun.begin.Goals as goal
 
@@ -17,7 +19,8 @@ returns g c = (
   record {
     stream = c.in-Ok-dial.stream;
     request = c.in-Ok.look.request;
-    asked = sym c.in_ok-look.ensures.looks ∙ c.in-Ok.is;
+    asked = subst (λ (s : Service). looking s.keeps (book_of c.args.connector.now.book) c.args.name.now ≡ Ok c.in-Ok.look)
+        c.service.view_is (sym c.in_ok-look.ensures.looks ∙ c.in-Ok.is);
     opened_are = refl;
     set_out = c.send_on-flight.ensures;
   },

@@ -4,6 +4,12 @@ use Rattle.checking.specs.Rechecks.{groups_in}
 use Rattle.checking.proofs.RecheckLemmas.{checked_in_vain, compared, not_compared}
 use Rattle.checking.proofs.rechecking.compare.Goals as goal
 
+pub returns-in_err-names-clause-ended : goal.returns-in_err-names-clause-ended
+returns-in_err-names-clause-ended g c =
+    let p = err_from_is_err_and c.from_residual.result c.from_residual.ensures.1 in
+    rw p.1 (not_compared g.D.Reader.Read.remaining g.D.Writer.Write.contents c.args.service.now c.args.connector.now.book
+    (g.D.Dial.opened c.args.dial.now) p.0 (p.2 ∙ c.in_err-names.ensures.fault))
+
 pub returns-in_err-carried-clause-ended : goal.returns-in_err-carried-clause-ended
 returns-in_err-carried-clause-ended g c =
     let given = c.from_residual-in_err-carried in
