@@ -1,5 +1,6 @@
 pub mod Lines
 pub mod Paths
+pub mod ServicePathLemmas
 pub mod Queries
 pub mod RequestLaws
 pub mod AnswerLemmas

@@ -1,13 +1,10 @@
--- The path of a resource is its location without the origin.
-use Rattle.std.proofs.Common.{◌≡◌, ℕ, List, ◌++◌, refl, ap, sym, subst, ◌∙◌, arith, length, take, drop, length-append, append_assoc}
+-- What a location has behind its base.
+use Rattle.std.proofs.Common.{◌≡◌, ℕ, List, ◌++◌, ap, sym, subst, ◌∙◌, arith, length, take, drop, length-append, append_assoc}
 use Rattle.std.proofs.Math.Seq.{take-append_seam, drop-append_seam}
-use Rattle.std.specs.Prelude.{codes}
 use Rattle.std.specs.Str.{IsUtf8, IsCharBoundary}
 use Rattle.std.proofs.lemmas.Str.{IsCharBoundary-from_take}
 use Rattle.scim_key.specs.declared.records.Kind.{Kind}
-use Rattle.scim_key.specs.declared.records.Kind.TheVariants as kinds
 use Rattle.scim_resource.specs.Locations.{collection_path, escaped, location_text}
-use Rattle.scim_http.specs.Laws.{resource_path}
 
 -- the text after the base
 abbrev pub below : Kind → List ℕ → List ℕ
@@ -26,6 +23,6 @@ may_cut base uri rest is front whole =
 pub cut : (base uri rest : List ℕ) → uri ≡ base ++ rest → drop (length base) uri ≡ rest
 cut base uri rest is = ap (drop (length base)) is ∙ drop-append_seam base rest
 
-pub path_is : (kind : Kind) (id : List ℕ) → codes "/v2" ++ below kind id ≡ resource_path kind id
-path_is kinds.User id = refl
-path_is kinds.Group id = refl
+pub location_below : (path : List ℕ) (kind : Kind) (id : List ℕ) → path ++ below kind id ≡ location_text path kind id
+unfolding location_text
+location_below path kind id = sym (append_assoc path (collection_path kind) (escaped id))

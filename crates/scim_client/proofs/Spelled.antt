@@ -6,14 +6,15 @@ use Rattle.std.specs.List.{AllByRecursion, list_all}
 use Rattle.std.proofs.lemmas.List.Elements.{All-nil, All-cons}
 use Rattle.std.proofs.lemmas.List.Sums.{AllPass-from_list_all}
 use Rattle.httparse.specs.Grammar.{IsToken, is_token_byte}
-use Rattle.scim_key.specs.Bases.{IsBase, IsAuthority, authority_of, is_authority_byte}
-use Rattle.scim_key.proofs.BaseLemmas.{are_spelled}
+use Rattle.scim_key.specs.Bases.{IsAuthority}
+use Rattle.scim_key.proofs.BaseLemmas.{authority_is_lawful}
 use Rattle.scim_key.specs.Outcome.{◌>>=◌}
 use Rattle.scim_key.specs.declared.records.Kind.{Kind}
 use Rattle.scim_key.specs.declared.records.Kind.TheVariants as kinds
 use Rattle.scim_version.specs.declared.conditions.Condition.{Condition}
 use Rattle.scim_version.specs.declared.conditions.Condition.TheVariants.{Always}
 use Rattle.scim_resource.specs.Contents.{content_kind}
+use Rattle.scim_resource.specs.Locations.{location_text}
 use Rattle.scim_resource.specs.Reading.{content_in}
 use Rattle.scim_resource.proofs.RoundTrips as round_trips
 use Rattle.scim_resource.specs.declared.contents.Content.{Content}
@@ -36,10 +37,12 @@ use Rattle.scim_http.specs.Meaning.{IsAsked, routed_asked, collection_asked, res
 use Rattle.scim_http.specs.Routes.{path_of, route_of, collection_path}
 use Rattle.scim_http.specs.Searches.{IsFilter, IsSearch, IsSearchOn, start_in, count_in, start_of, count_of, page_of}
 use Rattle.scim_http.proofs.LocationLaws.{locations_are_routed}
-use Rattle.scim_client.specs.Requests.{with_query, query_text, start_value, condition_value, content_text, lines_of, text_of}
-use Rattle.scim_client.specs.Spelling.{IsIdText, IsSentContent, IsFilterText, KeepsFilterLimits, IsShortNumber, HasLawfulParts, IsWritable, KeepsLimits, SpellsRequest, RequestsAreSpelled}
+use Rattle.scim_client.specs.Requests.{with_query, query_text, start_value, condition_value, content_text, lines_of, method_text, body_text, request_lines, collection_in, target_text, text_at}
+use Rattle.scim_client.specs.ServicePaths.{host_of, service_path_of}
+use Rattle.scim_client.specs.Spelling.{IsIdText, IsSentContent, IsFilterText, KeepsFilterLimits, IsShortNumber, HasLawfulParts, IsWritable, KeepsLimitsAt, SpellsRequest, RequestsAreSpelled}
 use Rattle.scim_client.proofs.Lines.{IsSentCondition, host_value, decimal_value, condition_is_value, condition_found, lines_are, finds, stated_decimal, judged, judged_body, judged_bodiless}
 use Rattle.scim_client.proofs.Queries.{IsByte, IsTextOf, reads, start_read, count_read}
+use Rattle.scim_client.proofs.ServicePathLemmas.{base_host}
 use Rattle.scim_client.proofs.Utf8Bytes.{utf8_bytes}
 use Rattle.scim_client.proofs.Targets.{is_target, path_bytes, collection_is_path, resource_is_path, path_alone, path_found, query_found, target_some, target_bytes, query_bytes}
 
@@ -58,46 +61,31 @@ Judges has_body method target =
 abbrev IsSent : List ℕ → Message → Type 0
 IsSent text m = IsRequestMessage text m × IsAccepted m
 
--- the host and port of a base
-abbrev pub HasHost : List ℕ → Type 0
-HasHost base = IsAuthority (authority_of base)
-
-pub has_host : (base : List ℕ) → IsBase base → HasHost base
-has_host base is =
-    let spelled = (are_spelled.lawful base).0 is in
-    let same : authority_of base ≡ spelled.0 = ap authority_of spelled.2 ∙ are_spelled.read_back spelled.0 in
-    subst IsAuthority (sym same) spelled.1
-
-lawful_host : (base : List ℕ) → HasHost base → list_all is_authority_byte (authority_of base) ≡ true
-lawful_host base is = is.bytes
-
-sent_with_body : (base method target body : List ℕ) (first second : Condition) → IsToken method → IsTarget target → Judges true method target → HasHost base
+sent_with_body : (host method target body : List ℕ) (first second : Condition) → IsToken method → IsTarget target → Judges true method target → IsAuthority host
     → IsSentCondition first → IsSentCondition second → length body ≤ body_limit
-    → length (request_text method target (written_lines (lines_of (authority_of base) (Some (decimal (length body))) (condition_value first) (condition_value second))) body) ≤ head_limit + length body
-    → IsSent (request_text method target (written_lines (lines_of (authority_of base) (Some (decimal (length body))) (condition_value first) (condition_value second))) body)
-    (record { head = head_with method target (written_lines (lines_of (authority_of base) (Some (decimal (length body))) (condition_value first) (condition_value second))); body = body })
-sent_with_body base method target body first second is at judges lawful one two small size =
+    → length (request_text method target (written_lines (lines_of host (Some (decimal (length body))) (condition_value first) (condition_value second))) body) ≤ head_limit + length body
+    → IsSent (request_text method target (written_lines (lines_of host (Some (decimal (length body))) (condition_value first) (condition_value second))) body)
+    (record { head = head_with method target (written_lines (lines_of host (Some (decimal (length body))) (condition_value first) (condition_value second))); body = body })
+sent_with_body host method target body first second is at judges lawful one two small size =
     let n = length body in
-    let host = authority_of base in
     let long = Some (decimal n) in
     let found = finds host long (condition_value first) (condition_value second) in
     let fields = written_lines (lines_of host long (condition_value first) (condition_value second)) in
-    let all = lines_are host long (condition_value first) (condition_value second) (host_value host (lawful_host base lawful)) (decimal_value n (omega (arith, small))) (condition_is_value first one) (condition_is_value second two) in
+    let all = lines_are host long (condition_value first) (condition_value second) (host_value host lawful.bytes) (decimal_value n (omega (arith, small))) (condition_is_value first one) (condition_is_value second two) in
     let l : length_in (values (codes "content-length") fields) ≡ stated n = ap length_in found.long ∙ stated_decimal n small in (
       texts.texts_are_read.request method target fields body is at all size found.few (sym (ap body_length l)),
       (n, judges fields ∙ judged_body n host (length_in (values (codes "content-length") fields)) (values (codes "host") fields) (values (codes "transfer-encoding") fields) (values (codes "expect") fields) small l found.at found.coding found.expect),
     )
 
-sent_bodiless : (base method target : List ℕ) (first second : Condition) → IsToken method → IsTarget target → Judges false method target → HasHost base
+sent_bodiless : (host method target : List ℕ) (first second : Condition) → IsToken method → IsTarget target → Judges false method target → IsAuthority host
     → IsSentCondition first → IsSentCondition second
-    → length (request_text method target (written_lines (lines_of (authority_of base) None (condition_value first) (condition_value second))) []) ≤ head_limit + 0
-    → IsSent (request_text method target (written_lines (lines_of (authority_of base) None (condition_value first) (condition_value second))) [])
-    (record { head = head_with method target (written_lines (lines_of (authority_of base) None (condition_value first) (condition_value second))); body = [] })
-sent_bodiless base method target first second is at judges lawful one two size =
-    let host = authority_of base in
+    → length (request_text method target (written_lines (lines_of host None (condition_value first) (condition_value second))) []) ≤ head_limit + 0
+    → IsSent (request_text method target (written_lines (lines_of host None (condition_value first) (condition_value second))) [])
+    (record { head = head_with method target (written_lines (lines_of host None (condition_value first) (condition_value second))); body = [] })
+sent_bodiless host method target first second is at judges lawful one two size =
     let found = finds host None (condition_value first) (condition_value second) in
     let fields = written_lines (lines_of host None (condition_value first) (condition_value second)) in
-    let all = lines_are host None (condition_value first) (condition_value second) (host_value host (lawful_host base lawful)) tt (condition_is_value first one) (condition_is_value second two) in
+    let all = lines_are host None (condition_value first) (condition_value second) (host_value host lawful.bytes) tt (condition_is_value first one) (condition_is_value second two) in
     let l : length_in (values (codes "content-length") fields) ≡ absent = ap length_in found.long in (
       texts.texts_are_read.request method target fields [] is at all size found.few (sym (ap body_length l)),
       (0, judges fields ∙ judged_bodiless host (length_in (values (codes "content-length") fields)) (values (codes "host") fields) (values (codes "transfer-encoding") fields) (values (codes "expect") fields) l found.at found.coding found.expect),
@@ -117,6 +105,22 @@ put_is_token = token (codes "PUT") (omega arith) refl
 get_is_token : IsToken (codes "GET")
 unfolding is_token_byte
 get_is_token = token (codes "GET") (omega arith) refl
+
+-- ---- the text
+
+-- the target of a request, as the server reads it
+abbrev target_here : Request → List ℕ
+target_here (Create content) = collection_path (content_kind content)
+target_here (Retrieve kind id first second) = resource_path kind id
+target_here (Search kind filter start count) = with_query (collection_path kind) (query_text filter start count)
+target_here (Replace id content first second) = resource_path (content_kind content) id
+
+abbrev text_here : List ℕ → Request → List ℕ
+text_here host request =
+    request_text (method_text request) (target_here request) (written_lines (request_lines host request)) (body_text request)
+
+abbrev KeepsHere : List ℕ → Request → Type 0
+KeepsHere host request = (length (text_here host request) ≤ head_limit + length (body_text request)) × (length (body_text request) ≤ body_limit)
 
 -- ---- what is asked
 
@@ -164,17 +168,17 @@ content_found content is = round_trips.content_sent content is.0 is.1
 
 -- ---- POST
 
-created : (base : List ℕ) (content : Content) → HasHost base → IsSentContent content → KeepsLimits base (Create content) → SpellsRequest (text_of base (Create content)) (Create content)
-created base content lawful is keeps =
+created : (host : List ℕ) (content : Content) → IsAuthority host → IsSentContent content → KeepsHere host (Create content) → SpellsRequest (text_here host (Create content)) (Create content)
+created host content lawful is keeps =
     let kind = content_kind content in
     let path = collection_path kind in
     let body = content_text content in
     let long = Some (decimal (length body)) in
-    let fields = written_lines (lines_of (authority_of base) long None None) in
+    let fields = written_lines (lines_of host long None None) in
     let m : Message = record { head = head_with (codes "POST") path fields; body = body } in
-    let found = finds (authority_of base) long None None in
+    let found = finds host long None None in
     let at = is_target path (collection_some kind) (path_bytes path (collection_is_path kind)) in
-    let sent = sent_with_body base (codes "POST") path body Always Always post_is_token at (λ f. refl) lawful (tt, tt) (tt, tt) keeps.1 keeps.0 in
+    let sent = sent_with_body host (codes "POST") path body Always Always post_is_token at (λ f. refl) lawful (tt, tt) (tt, tt) keeps.1 keeps.0 in
     let read = content_sent_is _ (content_in kind body) content found.media (content_found content is) in
     record {
       message = m;
@@ -185,19 +189,19 @@ created base content lawful is keeps =
 
 -- ---- PUT
 
-replaced : (base id : List ℕ) (content : Content) (first second : Condition) → HasHost base → IsIdText id → IsSentContent content → IsSentCondition first → IsSentCondition second
-    → KeepsLimits base (Replace id content first second) → SpellsRequest (text_of base (Replace id content first second)) (Replace id content first second)
-replaced base id content first second lawful named is one two keeps =
+replaced : (host id : List ℕ) (content : Content) (first second : Condition) → IsAuthority host → IsIdText id → IsSentContent content → IsSentCondition first → IsSentCondition second
+    → KeepsHere host (Replace id content first second) → SpellsRequest (text_here host (Replace id content first second)) (Replace id content first second)
+replaced host id content first second lawful named is one two keeps =
     let kind = content_kind content in
     let path = resource_path kind id in
     let body = content_text content in
     let long = Some (decimal (length body)) in
-    let fields = written_lines (lines_of (authority_of base) long (condition_value first) (condition_value second)) in
+    let fields = written_lines (lines_of host long (condition_value first) (condition_value second)) in
     let m : Message = record { head = head_with (codes "PUT") path fields; body = body } in
-    let found = finds (authority_of base) long (condition_value first) (condition_value second) in
+    let found = finds host long (condition_value first) (condition_value second) in
     let lawful_path = resource_is_path kind id (utf8_bytes id named.0) in
     let at = is_target path (resource_some kind id) (path_bytes path lawful_path) in
-    let sent = sent_with_body base (codes "PUT") path body first second put_is_token at (λ f. refl) lawful one two keeps.1 keeps.0 in
+    let sent = sent_with_body host (codes "PUT") path body first second put_is_token at (λ f. refl) lawful one two keeps.1 keeps.0 in
     let read = content_sent_is _ (content_in kind body) content found.media (content_found content is) in
     let conditions = conditions_are (condition_in (values (codes "if-match") fields)) (condition_in (values (codes "if-none-match") fields)) first second
     (ap condition_in found.first ∙ condition_found first one) (ap condition_in found.second ∙ condition_found second two) in
@@ -211,16 +215,16 @@ replaced base id content first second lawful named is one two keeps =
 
 -- ---- GET on one resource
 
-retrieved : (base : List ℕ) (kind : Kind) (id : List ℕ) (first second : Condition) → HasHost base → IsIdText id → IsSentCondition first → IsSentCondition second
-    → KeepsLimits base (Retrieve kind id first second) → SpellsRequest (text_of base (Retrieve kind id first second)) (Retrieve kind id first second)
-retrieved base kind id first second lawful named one two keeps =
+retrieved : (host : List ℕ) (kind : Kind) (id : List ℕ) (first second : Condition) → IsAuthority host → IsIdText id → IsSentCondition first → IsSentCondition second
+    → KeepsHere host (Retrieve kind id first second) → SpellsRequest (text_here host (Retrieve kind id first second)) (Retrieve kind id first second)
+retrieved host kind id first second lawful named one two keeps =
     let path = resource_path kind id in
-    let fields = written_lines (lines_of (authority_of base) None (condition_value first) (condition_value second)) in
+    let fields = written_lines (lines_of host None (condition_value first) (condition_value second)) in
     let m : Message = record { head = head_with (codes "GET") path fields; body = [] } in
-    let found = finds (authority_of base) None (condition_value first) (condition_value second) in
+    let found = finds host None (condition_value first) (condition_value second) in
     let lawful_path = resource_is_path kind id (utf8_bytes id named.0) in
     let at = is_target path (resource_some kind id) (path_bytes path lawful_path) in
-    let sent = sent_bodiless base (codes "GET") path first second get_is_token at (λ f. refl) lawful one two keeps.0 in
+    let sent = sent_bodiless host (codes "GET") path first second get_is_token at (λ f. refl) lawful one two keeps.0 in
     let conditions = conditions_are (condition_in (values (codes "if-match") fields)) (condition_in (values (codes "if-none-match") fields)) first second
     (ap condition_in found.first ∙ condition_found first one) (ap condition_in found.second ∙ condition_found second two) in
     record {
@@ -272,16 +276,16 @@ searched kind filter start count lawful first second =
     let F : Option (List ℕ) → Type 0 = λ text. IsFilter text (Ok filter) in
     subst P (sym page) (Ok filter, subst F (sym found.first) (filter_read filter lawful), refl)
 
-found_by : (base : List ℕ) (kind : Kind) (filter : Option Expression) (start : ℤ) (count : Option ℤ) → HasHost base → IfSome filter IsSentFilter → IsShortNumber start → IfSome count IsShortNumber
-    → KeepsLimits base (Search kind filter start count) → SpellsRequest (text_of base (Search kind filter start count)) (Search kind filter start count)
-found_by base kind filter start count lawful is first second keeps =
+found_by : (host : List ℕ) (kind : Kind) (filter : Option Expression) (start : ℤ) (count : Option ℤ) → IsAuthority host → IfSome filter IsSentFilter → IsShortNumber start → IfSome count IsShortNumber
+    → KeepsHere host (Search kind filter start count) → SpellsRequest (text_here host (Search kind filter start count)) (Search kind filter start count)
+found_by host kind filter start count lawful is first second keeps =
     let path = collection_path kind in
     let query = query_text filter start count in
     let target = with_query path query in
-    let fields = written_lines (lines_of (authority_of base) None None None) in
+    let fields = written_lines (lines_of host None None None) in
     let m : Message = record { head = head_with (codes "GET") target fields; body = [] } in
     let at = is_target target (target_some path query (collection_some kind)) (target_bytes path query (collection_is_path kind) (query_bytes (option_map filter_text filter) (start_value start) (option_map signed_decimal count))) in
-    let sent = sent_bodiless base (codes "GET") target Always Always get_is_token at (λ f. refl) lawful (tt, tt) (tt, tt) keeps.0 in
+    let sent = sent_bodiless host (codes "GET") target Always Always get_is_token at (λ f. refl) lawful (tt, tt) (tt, tt) keeps.0 in
     let P : List ℕ → Type 0 = λ q. IsSearch kind q (Ok (Search kind filter start count)) in
     record {
       message = m;
@@ -291,14 +295,45 @@ found_by base kind filter start count lawful is first second keeps =
           (subst P (sym (query_found path query (collection_is_path kind))) (searched kind filter start count is first second));
     }
 
-pub spelled_by : (base : List ℕ) (request : Request) → HasHost base → HasLawfulParts request → IsWritable request → KeepsLimits base request → SpellsRequest (text_of base request) request
-spelled_by base (Create content) lawful parts seen keeps = created base content lawful parts.1 keeps
-spelled_by base (Retrieve kind id first second) lawful parts seen keeps =
-    retrieved base kind id first second lawful parts.0 (seen.0, parts.2) (seen.1, parts.3) keeps
-spelled_by base (Search kind filter start count) lawful parts seen keeps =
-    found_by base kind filter start count lawful (is_sent_filter filter parts.0 seen.0) seen.1 seen.2 keeps
-spelled_by base (Replace id content first second) lawful parts seen keeps =
-    replaced base id content first second lawful parts.0 parts.1 (seen.0, parts.2) (seen.1, parts.3) keeps
+spelled_here : (host : List ℕ) (request : Request) → IsAuthority host → HasLawfulParts request → IsWritable request → KeepsHere host request → SpellsRequest (text_here host request) request
+spelled_here host (Create content) lawful parts seen keeps = created host content lawful parts.1 keeps
+spelled_here host (Retrieve kind id first second) lawful parts seen keeps =
+    retrieved host kind id first second lawful parts.0 (seen.0, parts.2) (seen.1, parts.3) keeps
+spelled_here host (Search kind filter start count) lawful parts seen keeps =
+    found_by host kind filter start count lawful (is_sent_filter filter parts.0 seen.0) seen.1 seen.2 keeps
+spelled_here host (Replace id content first second) lawful parts seen keeps =
+    replaced host id content first second lawful parts.0 parts.1 (seen.0, parts.2) (seen.1, parts.3) keeps
+
+-- ---- at the path of the server
+
+collection_same : (kind : Kind) → collection_in (codes "/v2") kind ≡ collection_path kind
+collection_same kinds.User = refl
+collection_same kinds.Group = refl
+
+resource_same : (kind : Kind) (id : List ℕ) → location_text (codes "/v2") kind id ≡ resource_path kind id
+unfolding location_text
+resource_same kinds.User id = refl
+resource_same kinds.Group id = refl
+
+target_same : (request : Request) → target_text (codes "/v2") request ≡ target_here request
+target_same (Create content) = collection_same (content_kind content)
+target_same (Retrieve kind id first second) = resource_same kind id
+target_same (Search kind filter start count) = ap (λ (p : List ℕ). with_query p (query_text filter start count)) (collection_same kind)
+target_same (Replace id content first second) = resource_same (content_kind content) id
+
+text_same : (host path : List ℕ) (request : Request) → path ≡ codes "/v2" → text_at host path request ≡ text_here host request
+text_same host path request is =
+    ap (λ (t : List ℕ). request_text (method_text request) t (written_lines (request_lines host request)) (body_text request))
+    (ap (λ (p : List ℕ). target_text p request) is ∙ target_same request)
+
+pub spelled_by : (host path : List ℕ) (request : Request) → IsAuthority host → HasLawfulParts request → IsWritable request → KeepsLimitsAt host path request
+    → SpellsRequest (text_at host path request) request
+spelled_by host path request lawful parts seen keeps =
+    let same = text_same host path request keeps.2 in
+    let short = subst (λ (t : List ℕ). length t ≤ head_limit + length (body_text request)) same keeps.0 in
+    subst (λ (t : List ℕ). SpellsRequest t request) (sym same) (spelled_here host request lawful parts seen (short, keeps.1))
 
 pub requests_are_spelled : RequestsAreSpelled
-requests_are_spelled base request lawful parts seen keeps = spelled_by base request (has_host base lawful) parts seen keeps
+requests_are_spelled base request lawful parts seen keeps =
+    let authority = subst IsAuthority (sym (base_host base lawful)) (authority_is_lawful base lawful) in
+    spelled_by (host_of base) (service_path_of base) request authority parts seen keeps

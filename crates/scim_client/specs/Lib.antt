@@ -1,3 +1,4 @@
+pub mod ServicePaths
 pub mod Requests
 pub mod Spelling
 pub mod Answers

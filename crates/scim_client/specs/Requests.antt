@@ -6,10 +6,12 @@ use Rattle.std.specs.List.{join_by}
 use Rattle.std.specs.Option.{option_map_or}
 use Rattle.form_urlencoded.specs.Form.{append_pair}
 use Rattle.serde_json.specs.Written.{compact_text}
-use Rattle.scim_key.specs.Bases.{authority_of}
+use Rattle.scim_key.specs.declared.records.Kind.{Kind}
+use Rattle.scim_key.specs.declared.records.Kind.TheVariants as kinds
 use Rattle.scim_version.specs.declared.conditions.Condition.{Condition}
 use Rattle.scim_version.specs.declared.conditions.Condition.TheVariants.{Always, AnyTag, Tags}
 use Rattle.scim_resource.specs.Contents.{content_kind}
+use Rattle.scim_resource.specs.Locations.{location_text}
 use Rattle.scim_resource.specs.Writing.{content_data}
 use Rattle.scim_resource.specs.declared.contents.Content.{Content}
 use Rattle.scim_filter.specs.Expressions.{Expression}
@@ -18,10 +20,9 @@ use Rattle.scim_message.specs.declared.messages.Request.{Request}
 use Rattle.scim_message.specs.declared.messages.Request.TheVariants.{Create, Retrieve, Search, Replace}
 use Rattle.http_text.specs.Response.{Line, written_lines}
 use Rattle.http_text.specs.Texts.{request_text}
-use Rattle.scim_http.specs.Laws.{resource_path}
 use Rattle.scim_http.specs.Media.{media_type}
 use Rattle.scim_http.specs.Replies.{stated_type}
-use Rattle.scim_http.specs.Routes.{collection_path}
+use Rattle.scim_client.specs.ServicePaths.{host_of, service_path_of}
 
 -- ---- the target
 
@@ -47,12 +48,17 @@ abbrev pub with_query : List ℕ → List ℕ → List ℕ
 with_query path [] = path
 with_query path (byte ∷ query) = path ++ (codes "?" ++ byte ∷ query)
 
+-- the collection of a type below the path of a service
+abbrev pub collection_in : (path : List ℕ) → Kind → List ℕ
+collection_in path kinds.User = path ++ codes "/Users"
+collection_in path kinds.Group = path ++ codes "/Groups"
+
 -- a collection, one resource in it, or a search on a collection
-abbrev pub target_text : Request → List ℕ
-target_text (Create content) = collection_path (content_kind content)
-target_text (Retrieve kind id if_match if_none_match) = resource_path kind id
-target_text (Search kind filter start count) = with_query (collection_path kind) (query_text filter start count)
-target_text (Replace id content if_match if_none_match) = resource_path (content_kind content) id
+abbrev pub target_text : (path : List ℕ) → Request → List ℕ
+target_text path (Create content) = collection_in path (content_kind content)
+target_text path (Retrieve kind id if_match if_none_match) = location_text path kind id
+target_text path (Search kind filter start count) = with_query (collection_in path kind) (query_text filter start count)
+target_text path (Replace id content if_match if_none_match) = location_text path (content_kind content) id
 
 -- ---- the method and the body
 
@@ -116,22 +122,26 @@ lines_of host length_ if_match if_none_match =
     ∷ (codes "If-None-Match", if_none_match)
     ∷ []
 
-abbrev pub request_lines : List ℕ → Request → List Line
-request_lines base request =
-    lines_of (authority_of base) (stated_length request) (condition_value (if_match_of request))
+abbrev pub request_lines : (host : List ℕ) → Request → List Line
+request_lines host request =
+    lines_of host (stated_length request) (condition_value (if_match_of request))
     (condition_value (if_none_match_of request))
 
 -- ---- the text
 
--- The text of a request to the service at this base
-abbrev pub text_of : List ℕ → Request → List ℕ
-text_of base request =
-    request_text (method_text request) (target_text request)
-    (written_lines (request_lines base request)) (body_text request)
+-- the text of a request to the service at this host with this path
+abbrev pub text_at : (host path : List ℕ) → Request → List ℕ
+text_at host path request =
+    request_text (method_text request) (target_text path request)
+    (written_lines (request_lines host request)) (body_text request)
 
--- a request that is being built, and the base of its service
+-- The text of a request to the service at this address
+abbrev pub text_of : (address : List ℕ) → Request → List ℕ
+text_of address request = text_at (host_of address) (service_path_of address) request
+
+-- a request that is being built, and the address of its service
 pub record Planned : Type 0 where
-  pub base : List ℕ
+  pub address : List ℕ
   pub request : Request
 
 -- the condition of only this tag, if there is one

@@ -1,5 +1,5 @@
 -- Which texts spell a request, as the server reads them, and that the client's text does.
-use Rattle.std.specs.Prelude.{◌≡◌, ℕ, ℤ, pos, negsuc, suc, ◌+◌, ◌^◌, ◌<◌, ◌≤◌, List, length, Ok, IfSome, ⊤}
+use Rattle.std.specs.Prelude.{◌≡◌, ℕ, ℤ, pos, negsuc, suc, ◌+◌, ◌^◌, ◌<◌, ◌≤◌, List, length, Ok, IfSome, codes, ⊤}
 use Rattle.std.specs.List.{AllByRecursion}
 use Rattle.std.specs.Str.{IsUtf8}
 use Rattle.scim_key.specs.Bases.{IsBase}
@@ -17,7 +17,8 @@ use Rattle.scim_message.specs.declared.messages.Request.TheVariants.{Create, Ret
 use Rattle.http_text.specs.Message.{Message, head_limit, body_limit}
 use Rattle.http_text.specs.Forms.{IsRequestMessage, IsAccepted}
 use Rattle.scim_http.specs.Meaning.{Asks}
-use Rattle.scim_client.specs.Requests.{content_sent, content_text, body_text, if_match_of, if_none_match_of, text_of}
+use Rattle.scim_client.specs.Requests.{content_sent, content_text, body_text, if_match_of, if_none_match_of, text_at, text_of}
+use Rattle.scim_client.specs.ServicePaths.{host_of, service_path_of}
 
 -- the text is a message that isn't refused, and it asks for this request
 pub record SpellsRequest (text : List ℕ) (request : Request) : Type 0 where
@@ -82,11 +83,14 @@ IsWritable (Search kind filter start count) = IfSome filter KeepsFilterLimits ×
     × IfSome count IsShortNumber
 IsWritable (Replace id content if_match if_none_match) = HasSomeTag if_match × HasSomeTag if_none_match
 
--- the head and the body are within the limits of requests
-abbrev pub KeepsLimits : List ℕ → Request → Type 0
-KeepsLimits base request =
-    (length (text_of base request) ≤ head_limit + length (body_text request))
-    × (length (body_text request) ≤ body_limit)
+-- the head and the body are within the limits of requests, and the path is the server's
+abbrev pub KeepsLimitsAt : (host path : List ℕ) → Request → Type 0
+KeepsLimitsAt host path request =
+    (length (text_at host path request) ≤ head_limit + length (body_text request))
+    × (length (body_text request) ≤ body_limit) × (path ≡ codes "/v2")
+
+abbrev pub KeepsLimits : (address : List ℕ) → Request → Type 0
+KeepsLimits address request = KeepsLimitsAt (host_of address) (service_path_of address) request
 
 -- A request's text is a message that asks for that request
 abbrev pub RequestsAreSpelled : Type 0

@@ -8,9 +8,11 @@ mod exchange;
 mod request_laws;
 mod requests;
 mod service;
+mod service_paths;
 
 pub use answer_laws::{answers_are_read, one_answer};
 pub use answers::{AnswerFault, read_answer};
 pub use exchange::{ExchangeFault, read_reply};
 pub use request_laws::{one_request, requests_are_spelled};
 pub use service::{CreateRequest, ReplaceRequest, RetrieveRequest, ScimService, SearchRequest};
+pub use service_paths::{SERVICE_PATH_LIMIT, ServicePath};

@@ -1,46 +1,54 @@
 //! The bytes of a request (RFC 7644 sections 3.3 to 3.5, RFC 9112 section 3).
 ghost use Rattle.std.specs.Prelude.{◌≡◌, ◌++◌, ℕ, List, [], codes, decimal, length, map, IfOk, IfSome, OnOk, option_map, string_bytes};
-ghost use Rattle.std.specs.Cow.{cow_str_bytes};
 ghost use Rattle.std.specs.Fmt.{signed_decimal};
 ghost use Rattle.std.specs.List.{AllByRecursion, flat_map, join_by};
 ghost use Rattle.std.specs.Option.{option_map_or};
 ghost use Rattle.http_text.specs.Response.{line_of};
 ghost use Rattle.scim_version.specs.declared.conditions.Condition.TheVariants.{Always};
 ghost use Rattle.scim_version.specs.Tags.{IsEntityTag};
+ghost use Rattle.scim_key.specs.Bases.{authority_of};
+ghost use Rattle.scim_resource.specs.Locations.{location_text};
 ghost use Rattle.scim_filter.specs.Texts.{filter_text};
-ghost use Rattle.scim_http.specs.Laws as paths;
-ghost use Rattle.scim_http.specs.Routes as routes;
 ghost use Rattle.scim_client.specs.Requests as spec;
-ghost use Rattle.scim_client.specs.Spelling.{HasEntityTags, HasLawfulTarget, IsFilterText, IsIdText, IsSentContent, IsWritable, KeepsLimits, SpellsRequest};
+ghost use Rattle.scim_client.specs.Spelling.{HasEntityTags, HasLawfulTarget, IsFilterText, IsIdText, IsSentContent, IsWritable, KeepsLimitsAt, SpellsRequest};
 
 use form_urlencoded::Serializer;
 use http_text::{FieldLine, write_request};
 use itoa::Buffer;
 use scim_filter::Filter;
-use scim_http::{MEDIA_TYPE, collection_path, stated_type};
+use scim_http::{MEDIA_TYPE, stated_type};
 use scim_key::{Base, Kind, ResourceId};
 use scim_message::Request;
 use scim_resource::{Content, location};
 use scim_version::{Condition, EntityTag};
 use std::alloc::{AllocError, Global};
-use std::borrow::CowStr;
 
 /// How many bytes are reserved for the target of a search; most targets need fewer.
 const TARGET_ROOM: usize = 512;
 
-/// How many bytes a path has in front of an id, at most.
+/// How many bytes a path has in front of an id, if the service has no path of its own.
 const PATH_ROOM: usize = 16;
+
+/// How many bytes a collection's name has behind the path of its service, at most.
+const COLLECTION_ROOM: usize = 8;
 
 /// How many field lines a request may have.
 const FIELD_LINES: usize = 7;
 
-/// The bytes of a request to the service at this base.
-pub(crate) fn bytes_of(alloc: Global, base: &Base, request: &Request) -> Result<Vec<u8>, AllocError>
-    ensures text { IfOk result (λ text. text.items ≡ spec.text_of base.now request.now) }
-    ensures spelled { IfOk result (λ text. IsWritable request.now → KeepsLimits base.now request.now
+/// The bytes of a request to the service at the host of this base, with this path.
+pub(crate) fn bytes_of(
+    alloc: Global,
+    base: &Base,
+    path: &str,
+    request: &Request,
+) -> Result<Vec<u8>, AllocError>
+    ensures text { IfOk result
+        (λ text. text.items ≡ spec.text_at (authority_of base.now) path.now request.now) }
+    ensures spelled { IfOk result (λ text. IsWritable request.now
+        → KeepsLimitsAt (authority_of base.now) path.now request.now
         → SpellsRequest text.items request.now) }
 {
-    let target = target_of(alloc, base, request)?;
+    let target = target_of(alloc, base, path, request)?;
     let body = body_of(alloc, request)?;
     let if_match = condition_value(alloc, if_match_of(request))?;
     let if_none_match = condition_value(alloc, if_none_match_of(request))?;
@@ -213,70 +221,75 @@ fn sent(body: Option<&[u8]>) -> &[u8]
 fn target_of(
     alloc: Global,
     base: &Base,
+    path: &str,
     request: &Request,
-) -> Result<CowStr<'static, Global>, AllocError>
-    ensures text { IfOk result (λ text. cow_str_bytes text ≡ spec.target_text request.now) }
+) -> Result<String, AllocError>
+    ensures text { IfOk result
+        (λ text. string_bytes text ≡ spec.target_text path.now request.now) }
     ensures lawful { OnOk result (HasLawfulTarget request.now) }
 {
     match request {
-        Request::Create { content } => Ok(CowStr::Borrowed(collection_path(content.kind()))),
-        Request::Retrieve { kind, id, .. } => resource_target(alloc, base, *kind, id),
+        Request::Create { content } => collection_in(alloc, path, content.kind()),
+        Request::Retrieve { kind, id, .. } => resource_in(alloc, base, path, *kind, id),
         Request::Search {
             kind,
             filter,
             start,
             count,
-        } => search_target(alloc, *kind, filter.as_ref(), *start, *count),
-        Request::Replace { id, content, .. } => resource_target(alloc, base, content.kind(), id),
+        } => search_target(alloc, path, *kind, filter.as_ref(), *start, *count),
+        Request::Replace { id, content, .. } => resource_in(alloc, base, path, content.kind(), id),
     }
 }
 
-/// The path of a resource as a target.
-fn resource_target(
-    alloc: Global,
-    base: &Base,
-    kind: Kind,
-    id: &ResourceId,
-) -> Result<CowStr<'static, Global>, AllocError>
-    ensures path { IfOk result (λ text. cow_str_bytes text ≡ paths.resource_path kind id.now) }
-    ensures lawful { OnOk result (IsIdText id.now) }
+/// The collection of a type below the path of a service.
+fn collection_in(alloc: Global, path: &str, kind: Kind) -> Result<String, AllocError>
+    ensures { IfOk result (λ text. string_bytes text ≡ spec.collection_in path.now kind) }
 {
-    Ok(CowStr::Owned(resource_path(alloc, base, kind, id)?))
+    let mut text = String::with_capacity(alloc, path.len().saturating_add(COLLECTION_ROOM))?;
+    text.push_str(path)?;
+    text.push_str(match kind {
+        Kind::User => "/Users",
+        Kind::Group => "/Groups",
+    })?;
+    Ok(text)
 }
 
-/// The path of a resource: its location without the origin.
-fn resource_path(
+/// A resource below the path of a service: its location, with that in place of the base.
+fn resource_in(
     alloc: Global,
     base: &Base,
+    path: &str,
     kind: Kind,
     id: &ResourceId,
 ) -> Result<String, AllocError>
-    ensures path { IfOk result (λ text. string_bytes text ≡ paths.resource_path kind id.now) }
+    ensures path { IfOk result (λ text. string_bytes text ≡ location_text path.now kind id.now) }
     ensures lawful { OnOk result (IsIdText id.now) }
 {
     let uri = location(alloc, base, kind, id)?;
-    let mut path = String::with_capacity(alloc, id.as_str().len().saturating_add(PATH_ROOM))?;
-    path.push_str("/v2")?;
-    path.push_str(&uri.as_str()[base.as_str().len()..])?;
-    Ok(path)
+    let mut text = String::with_capacity(alloc, id.as_str().len().saturating_add(PATH_ROOM))?;
+    text.push_str(path)?;
+    text.push_str(&uri.as_str()[base.as_str().len()..])?;
+    Ok(text)
 }
 
 /// The path of a collection, and the query if it isn't empty: the parameters that have a value, as a form
 /// writes them.
 fn search_target(
     alloc: Global,
+    path: &str,
     kind: Kind,
     filter: Option<&Filter>,
     start: i64,
     count: Option<i64>,
-) -> Result<CowStr<'static, Global>, AllocError>
-    ensures text { IfOk result (λ text. cow_str_bytes text
-        ≡ spec.with_query (routes.collection_path kind)
+) -> Result<String, AllocError>
+    ensures text { IfOk result (λ text. string_bytes text
+        ≡ spec.with_query (spec.collection_in path.now kind)
         (spec.query_text (option_map (λ t. t.now) filter.entry) start count)) }
     ensures lawful { OnOk result (IfSome (option_map (λ t. t.now) filter.entry) IsFilterText) }
 {
     let filter = filter_text_of(alloc, filter)?;
-    let mut form = form_after(alloc, collection_path(kind))?;
+    let collection = collection_in(alloc, path, kind)?;
+    let mut form = form_after(alloc, collection.as_str())?;
     push_parameter(&mut form, "filter", lent_text(&filter))?;
     push_parameter(
         &mut form,
@@ -284,7 +297,7 @@ fn search_target(
         start_value(start, &mut Buffer::new()),
     )?;
     push_parameter(&mut form, "count", count_value(count, &mut Buffer::new()))?;
-    Ok(without_mark(collection_path(kind), form.finish()))
+    Ok(without_mark(collection, form.finish()))
 }
 
 /// An empty form behind a path and a `?`.
@@ -300,14 +313,14 @@ fn form_after(alloc: Global, path: &str) -> Result<Serializer, AllocError>
 }
 
 /// The path alone if no query follows the `?` of this target.
-fn without_mark(path: &'static str, target: String) -> CowStr<'static, Global>
-    ensures { (query : List ℕ) → string_bytes target ≡ (path.now ++ codes "?") ++ query
-        → cow_str_bytes result ≡ spec.with_query path.now query }
+fn without_mark(path: String, target: String) -> String
+    ensures { (query : List ℕ) → string_bytes target ≡ (string_bytes path ++ codes "?") ++ query
+        → string_bytes result ≡ spec.with_query (string_bytes path) query }
 {
     if target.len().saturating_sub(path.len()) == 1 {
-        CowStr::Borrowed(path)
+        path
     } else {
-        CowStr::Owned(target)
+        target
     }
 }
 

@@ -2,10 +2,13 @@
 ghost use Rattle.std.specs.Prelude.{◌≡◌, None, IfOk, option_map, pos};
 ghost use Rattle.scim_message.specs.declared.messages.Request.TheVariants as requests;
 ghost use Rattle.scim_version.specs.declared.conditions.Condition.TheVariants.{Always};
+ghost use Rattle.scim_key.specs.Bases.{IsBase};
+ghost use Rattle.scim_client.specs.ServicePaths.{IsAddress, address_text, path_text};
 ghost use Rattle.scim_client.specs.Requests.{tag_alone, text_of, through_filter, under_tag};
 ghost use Rattle.scim_client.specs.Spelling.{IsWritable, KeepsLimits, SpellsRequest};
 
 use crate::requests::bytes_of;
+use crate::service_paths::ServicePath;
 use scim_filter::Filter;
 use scim_key::{Base, Kind, ResourceId};
 use scim_message::Request;
@@ -14,18 +17,45 @@ use scim_version::{Condition, EntityTag, TagList};
 use std::alloc::{AllocError, Global};
 use std::marker::Model;
 
+/// The path of a service that has none of its own.
+const OWN_PATH: &str = "/v2";
+
 /// A SCIM service, to which requests are sent.
 #[derive(Drop)]
 pub struct ScimService {
     base: Base,
+    path: Option<ServicePath>,
 }
 
 impl Model for ScimService {
     ghost use Rattle.std.specs.Prelude.{List, ℕ};
+    ghost use Rattle.scim_client.specs.ServicePaths.{IsAddress, address_text};
 
     ghost Value = { List ℕ };
 
-    ghost view = { λ s. s.base };
+    ghost view = { λ s. address_text s.base s.path };
+
+    ghost invariant = { λ s. IsAddress s.base s.path };
+}
+
+/// The types of a base and of a path guarantee their forms.
+fn keeps_forms(base: &Base, path: &Option<ServicePath>)
+    ensures { IsAddress base.now path.now }
+{
+    let _ = base.as_str();
+    if let Some(path) = path {
+        let _ = path.as_str();
+    }
+}
+
+/// The path of a service: its own, or else `/v2`.
+fn path_text(path: &Option<ServicePath>) -> &str
+    ensures { result.now ≡ path_text path.now }
+{
+    match path {
+        Some(path) => path.as_str(),
+        None => OWN_PATH,
+    }
 }
 
 impl ScimService {
@@ -33,11 +63,20 @@ impl ScimService {
     pub fn new(base: Base) -> ScimService
         ensures { result ≡ base }
     {
-        ScimService { base }
+        ScimService::with_path(base, None)
     }
 
+    /// The service at the host of this base, with a path in place of the base's if there is one.
+    pub fn with_path(base: Base, path: Option<ServicePath>) -> ScimService
+        ensures { result ≡ address_text base path }
+    {
+        keeps_forms(&base, &path);
+        ScimService { base, path }
+    }
+
+    /// The base, whatever the path is.
     pub fn base(&self) -> &Base
-        ensures { result.now ≡ self.now }
+        ensures { IsBase self.now → result.now ≡ self.now }
     {
         &self.base
     }
@@ -49,12 +88,12 @@ impl ScimService {
         ensures spelled { IfOk result (λ text. IsWritable request.now
             → KeepsLimits self.now request.now → SpellsRequest text.items request.now) }
     {
-        bytes_of(alloc, &self.base, request)
+        bytes_of(alloc, &self.base, path_text(&self.path), request)
     }
 
     /// A new resource with this content.
     pub fn create_request<'a>(&'a self, content: &'a Content) -> CreateRequest<'a>
-        ensures { result ≡ record { base = self.now; request = requests.Create content.now } }
+        ensures { result ≡ record { address = self.now; request = requests.Create content.now } }
     {
         CreateRequest {
             service: self,
@@ -65,7 +104,7 @@ impl ScimService {
     /// The resource of this type with this id.
     pub fn retrieve_request<'a>(&'a self, kind: Kind, id: &'a ResourceId) -> RetrieveRequest<'a>
         ensures { result ≡ record {
-          base = self.now;
+          address = self.now;
           request = requests.Retrieve kind id.now Always Always;
         } }
     {
@@ -79,7 +118,7 @@ impl ScimService {
     /// The resources of this type, from the first on, as many as the provider lists at once.
     pub fn search_request(&self, kind: Kind) -> SearchRequest<'_>
         ensures { result ≡ record {
-          base = self.now;
+          address = self.now;
           request = requests.Search kind None (pos 1) None;
         } }
     {
@@ -97,7 +136,7 @@ impl ScimService {
         id: &'a ResourceId,
     ) -> ReplaceRequest<'a>
         ensures { result ≡ record {
-          base = self.now;
+          address = self.now;
           request = requests.Replace id.now content.now Always Always;
         } }
     {
@@ -127,7 +166,7 @@ impl<'a> Model for CreateRequest<'a> {
 
     ghost coded = { Prim.hlevel (codes, expression_code) };
 
-    ghost view = { λ r. record { base = r.service.now; request = Create r.content.now } };
+    ghost view = { λ r. record { address = r.service.now; request = Create r.content.now } };
 }
 
 impl<'a> CreateRequest<'a> {
@@ -142,9 +181,9 @@ impl<'a> CreateRequest<'a> {
 
     /// Its bytes.
     pub fn build(&self, alloc: Global) -> Result<Vec<u8>, AllocError>
-        ensures text { IfOk result (λ text. text.items ≡ text_of self.now.base self.now.request) }
+        ensures text { IfOk result (λ text. text.items ≡ text_of self.now.address self.now.request) }
         ensures spelled { IfOk result (λ text. IsWritable self.now.request
-            → KeepsLimits self.now.base self.now.request
+            → KeepsLimits self.now.address self.now.request
             → SpellsRequest text.items self.now.request) }
     {
         let create = self.request(alloc)?;
@@ -172,7 +211,7 @@ impl<'a> Model for RetrieveRequest<'a> {
     ghost coded = { Prim.hlevel (codes, expression_code) };
 
     ghost view = { λ r. record {
-      base = r.service.now;
+      address = r.service.now;
       request = Retrieve r.kind r.id.now Always Always;
     } };
 }
@@ -192,9 +231,9 @@ impl<'a> RetrieveRequest<'a> {
 
     /// Its bytes.
     pub fn build(&self, alloc: Global) -> Result<Vec<u8>, AllocError>
-        ensures text { IfOk result (λ text. text.items ≡ text_of self.now.base self.now.request) }
+        ensures text { IfOk result (λ text. text.items ≡ text_of self.now.address self.now.request) }
         ensures spelled { IfOk result (λ text. IsWritable self.now.request
-            → KeepsLimits self.now.base self.now.request
+            → KeepsLimits self.now.address self.now.request
             → SpellsRequest text.items self.now.request) }
     {
         let retrieve = self.request(alloc)?;
@@ -222,7 +261,7 @@ impl<'a> Model for SearchRequest<'a> {
     ghost coded = { Prim.hlevel (codes, expression_code) };
 
     ghost view = { λ r. record {
-      base = r.service.now;
+      address = r.service.now;
       request = Search r.kind (option_map (λ t. t.now) r.filter) (pos 1) None;
     } };
 }
@@ -231,7 +270,7 @@ impl<'a> SearchRequest<'a> {
     /// Only the resources that this filter finds.
     pub fn filter(mut self, filter: &'a Filter) -> SearchRequest<'a>
         ensures { result ≡ record {
-          base = self.entry.base;
+          address = self.entry.address;
           request = through_filter filter.now self.entry.request;
         } }
     {
@@ -257,9 +296,9 @@ impl<'a> SearchRequest<'a> {
 
     /// Its bytes.
     pub fn build(&self, alloc: Global) -> Result<Vec<u8>, AllocError>
-        ensures text { IfOk result (λ text. text.items ≡ text_of self.now.base self.now.request) }
+        ensures text { IfOk result (λ text. text.items ≡ text_of self.now.address self.now.request) }
         ensures spelled { IfOk result (λ text. IsWritable self.now.request
-            → KeepsLimits self.now.base self.now.request
+            → KeepsLimits self.now.address self.now.request
             → SpellsRequest text.items self.now.request) }
     {
         let search = self.request(alloc)?;
@@ -289,7 +328,7 @@ impl<'a> Model for ReplaceRequest<'a> {
     ghost coded = { Prim.hlevel (codes, expression_code) };
 
     ghost view = { λ r. record {
-      base = r.service.now;
+      address = r.service.now;
       request = Replace r.id.now r.content.now (tag_alone (option_map (λ t. t.now) r.if_match)) Always;
     } };
 }
@@ -298,7 +337,7 @@ impl<'a> ReplaceRequest<'a> {
     /// Replaces only if the resource has the version with this tag (RFC 7232 section 3.1).
     pub fn if_match(mut self, tag: &'a EntityTag) -> ReplaceRequest<'a>
         ensures { result ≡ record {
-          base = self.entry.base;
+          address = self.entry.address;
           request = under_tag tag.now self.entry.request;
         } }
     {
@@ -320,9 +359,9 @@ impl<'a> ReplaceRequest<'a> {
 
     /// Its bytes.
     pub fn build(&self, alloc: Global) -> Result<Vec<u8>, AllocError>
-        ensures text { IfOk result (λ text. text.items ≡ text_of self.now.base self.now.request) }
+        ensures text { IfOk result (λ text. text.items ≡ text_of self.now.address self.now.request) }
         ensures spelled { IfOk result (λ text. IsWritable self.now.request
-            → KeepsLimits self.now.base self.now.request
+            → KeepsLimits self.now.address self.now.request
             → SpellsRequest text.items self.now.request) }
     {
         let replace = self.request(alloc)?;

@@ -91,13 +91,13 @@ group_filter name short = omega (arith, quoted_most name, short)
 search_writable : (kind : Kind) (wanted : Expression) → length (filter_text wanted) ≤ 900 → nesting wanted ≡ 0 → IsWritable (Search kind (Some wanted) (pos 1) None)
 search_writable kind wanted short flat = ((omega (arith, short), omega (arith, flat)), omega arith, tt)
 
-search_fits : (base : List ℕ) → length base ≤ 110 → (row : Row) → IsRow row → IsWritable (search_for row) × KeepsLimits base (search_for row)
-search_fits base short (rows.User row) law =
+search_fits : (base : List ℕ) → IsBase base → (row : Row) → IsRow row → IsWritable (search_for row) × KeepsLimits base (search_for row)
+search_fits base is_base (rows.User row) law =
     let text = user_filter row.login (user_name_short row.login law.login) in
-    (search_writable kinds.User (name_filter UserName row.login) text refl, keeps_limits base short (search_for (rows.User row)) (search_brief kinds.User (name_filter UserName row.login) text))
-search_fits base short (rows.Group row) law =
+    (search_writable kinds.User (name_filter UserName row.login) text refl, keeps_limits base is_base (search_for (rows.User row)) (search_brief kinds.User (name_filter UserName row.login) text))
+search_fits base is_base (rows.Group row) law =
     let text = group_filter row.name (group_name_short row.name law.name) in
-    (search_writable kinds.Group (name_filter DisplayName row.name) text refl, keeps_limits base short (search_for (rows.Group row)) (search_brief kinds.Group (name_filter DisplayName row.name) text))
+    (search_writable kinds.Group (name_filter DisplayName row.name) text refl, keeps_limits base is_base (search_for (rows.Group row)) (search_brief kinds.Group (name_filter DisplayName row.name) text))
 
 row_kind : (row : Row) → (row_name row).kind ≡ kind_of row
 row_kind (rows.User row) = refl
@@ -242,16 +242,16 @@ module _ {ours : Names} (base : List ℕ) (is_base : IsBase base) (w : World) (q
       (subst (λ (c : Condition). Keeps (Replace id content (Tags (tag ∷ [])) c)) (sym plain) keeps)
 
   pub asked_fits : (request : Request) → AskedFairly w.history w.entries request → IsPlain request → Keeps request
-  asked_fits (Create content) asked plain = (tt, keeps_limits base short (Create content) (create_brief content (image_most (content_name content) content asked)))
+  asked_fits (Create content) asked plain = (tt, keeps_limits base is_base (Create content) (create_brief content (image_most (content_name content) content asked)))
   asked_fits (Retrieve kind id if_match if_none_match) asked plain = absurd asked
   asked_fits (Search kind wanted start count) asked plain =
-      subst Keeps (sym asked.is) (search_fits base short asked.row (row_lawful w.history q.lawful (row_name asked.row) asked.row asked.accepted))
+      subst Keeps (sym asked.is) (search_fits base is_base asked.row (row_lawful w.history q.lawful (row_name asked.row) asked.row asked.accepted))
   asked_fits (Replace id content if_match if_none_match) asked plain =
       let own = own_record (content_name content) asked.image.row asked.image.accepted in
       let sizes = version_most (content_name content) id asked.tag asked.older own asked.version in
       let brief = replace_brief id asked.tag content sizes.0 sizes.1 (image_most (content_name content) content asked.image) in
       replaced_fits id content if_match if_none_match asked.tag asked.alone plain
-      ((omega arith, tt), keeps_limits base short (Replace id content (Tags (asked.tag ∷ [])) Always) brief)
+      ((omega arith, tt), keeps_limits base is_base (Replace id content (Tags (asked.tag ∷ [])) Always) brief)
 
   -- ---- what answers show
 

@@ -1,5 +1,5 @@
 -- Every request of a run keeps the limits of heads and bodies, and so does every answer.
-use Rattle.std.proofs.Common.{◌≡◌, ℕ, suc, ◌+◌, ◌*◌, ◌-◌, ◌/◌, ◌%◌, ◌≤◌, Bool, true, false, List, [], ◌∷◌, ◌++◌, length, codes, take, Option, Some, None, refl, ap, subst, arith, length-append, length-take, length-drop, append-nil, lit<}
+use Rattle.std.proofs.Common.{◌≡◌, ℕ, suc, ◌+◌, ◌*◌, ◌-◌, ◌/◌, ◌%◌, ◌≤◌, Bool, true, false, List, [], ◌∷◌, ◌++◌, length, codes, take, Option, Some, None, refl, ap, sym, subst, arith, length-append, length-take, length-drop, append-nil, lit<}
 use Rattle.std.specs.Prelude.{pos, zero}
 use Rattle.std.proofs.lemmas.Bool.Decides.{nat_tests}
 use Rattle.std.proofs.lemmas.Fmt.{length-decimal-le}
@@ -15,7 +15,7 @@ use Rattle.scim_key.specs.declared.records.Kind.TheVariants as kinds
 use Rattle.scim_version.specs.Tags.{version_tag}
 use Rattle.scim_version.specs.declared.conditions.Condition.TheVariants.{Always, Tags}
 use Rattle.scim_resource.specs.Contents.{content_kind}
-use Rattle.scim_resource.specs.Locations.{escaped, location_text}
+use Rattle.scim_resource.specs.Locations.{location_text}
 use Rattle.scim_resource.specs.Writing.{content_data}
 use Rattle.scim_resource.specs.declared.contents.Content.{Content}
 use Rattle.scim_filter.specs.Expressions.{Expression}
@@ -26,13 +26,13 @@ use Rattle.scim_message.specs.declared.messages.Answer.{Answer}
 use Rattle.scim_message.specs.Bodies.{answer_location, body_text as answer_body}
 use Rattle.scim_message.specs.Messages.{answer_status}
 use Rattle.http_text.specs.Response.{Line, written_lines}
-use Rattle.scim_http.specs.Laws.{resource_path}
 use Rattle.scim_http.specs.Replies.{stated_type, lines_of as reply_lines_of, answer_lines, shown_tag, is_created, stated_length as reply_length, value_if}
-use Rattle.scim_http.specs.Routes.{collection_path}
 use Rattle.scim_client.specs.AnswerLaws.{KeepsAnswerLimits}
-use Rattle.scim_client.specs.Requests.{with_query, target_text, method_text, body_text, stated_length, condition_value, if_match_of, if_none_match_of, lines_of, request_lines}
-use Rattle.scim_client.specs.Spelling.{KeepsLimits}
-use Rattle.world_sim.proofs.TextSizes.{IsWithin, printed, no_lines, with_line, request_most, response_most, escaped_short, parameter_short, location_short}
+use Rattle.scim_client.specs.Requests.{with_query, collection_in, target_text, method_text, body_text, stated_length, condition_value, if_match_of, if_none_match_of, lines_of, request_lines}
+use Rattle.scim_client.specs.ServicePaths.{host_of}
+use Rattle.scim_client.specs.Spelling.{KeepsLimits, KeepsLimitsAt}
+use Rattle.scim_client.proofs.ServicePathLemmas.{base_host, base_path}
+use Rattle.world_sim.proofs.TextSizes.{IsWithin, printed, no_lines, with_line, request_most, response_most, parameter_short, location_short}
 
 -- ---- small texts
 
@@ -98,30 +98,36 @@ method_short (Retrieve kind id if_match if_none_match) = omega arith
 method_short (Search kind wanted start count) = omega arith
 method_short (Replace id content if_match if_none_match) = omega arith
 
-host_short : (base : List ℕ) → length base ≤ 110 → length (authority_of base) ≤ 110
-host_short base short = omega (arith, short, length-drop 7 (take (length base - 3) base), length-take (length base - 3) base)
+authority_short : (base : List ℕ) → length base ≤ 110 → length (authority_of base) ≤ 110
+authority_short base short = omega (arith, short, length-drop 7 (take (length base - 3) base), length-take (length base - 3) base)
+
+host_short : (base : List ℕ) → IsBase base → length (host_of base) ≤ 110
+host_short base is = subst (λ (h : List ℕ). length h ≤ 110) (sym (base_host base is)) (authority_short base (base_short base is))
 
 -- what a request of a run keeps, as far as lengths go
 pub record IsBrief (request : Request) : Type 0 where
-  pub target : length (target_text request) ≤ 3000
+  pub target : length (target_text (codes "/v2") request) ≤ 3000
   pub body : length (body_text request) ≤ 21000
   pub long : IsWithin 20 (stated_length request)
   pub first : IsWithin 22 (condition_value (if_match_of request))
   pub second : IsWithin 22 (condition_value (if_none_match_of request))
 
-pub keeps_limits : (base : List ℕ) → length base ≤ 110 → (request : Request) → IsBrief request → KeepsLimits base request
-keeps_limits base short request brief =
-    let lines = lines_most (authority_of base) (stated_length request) (condition_value (if_match_of request)) (condition_value (if_none_match_of request)) (host_short base short) brief.long brief.first brief.second in
-    let head = request_most (method_text request) (target_text request) (written_lines (request_lines base request)) (body_text request) 4 3000 316 (method_short request) brief.target lines in
-    (omega (arith, head), omega (arith, brief.body))
+keeps_limits_at : (host : List ℕ) → length host ≤ 110 → (request : Request) → IsBrief request → KeepsLimitsAt host (codes "/v2") request
+keeps_limits_at host short request brief =
+    let lines = lines_most host (stated_length request) (condition_value (if_match_of request)) (condition_value (if_none_match_of request)) short brief.long brief.first brief.second in
+    let head = request_most (method_text request) (target_text (codes "/v2") request) (written_lines (request_lines host request)) (body_text request) 4 3000 316 (method_short request) brief.target lines in
+    (omega (arith, head), omega (arith, brief.body), refl)
 
-collection_short : (kind : Kind) → length (collection_path kind) ≤ 10
+pub keeps_limits : (base : List ℕ) → IsBase base → (request : Request) → IsBrief request → KeepsLimits base request
+keeps_limits base is request brief =
+    subst (λ (p : List ℕ). KeepsLimitsAt (host_of base) p request) (sym (base_path base is)) (keeps_limits_at (host_of base) (host_short base is) request brief)
+
+collection_short : (kind : Kind) → length (collection_in (codes "/v2") kind) ≤ 10
 collection_short kinds.User = omega arith
 collection_short kinds.Group = omega arith
 
-resource_short : (kind : Kind) (id : List ℕ) → length (resource_path kind id) ≤ 11 + 3 * length id
-resource_short kinds.User id = omega (arith, length-append (codes "/v2/Users/") (escaped id), escaped_short id)
-resource_short kinds.Group id = omega (arith, length-append (codes "/v2/Groups/") (escaped id), escaped_short id)
+resource_short : (kind : Kind) (id : List ℕ) → length (location_text (codes "/v2") kind id) ≤ 11 + 3 * length id
+resource_short kind id = omega (arith, location_short (codes "/v2") kind id)
 
 query_most : (path query : List ℕ) → length (with_query path query) ≤ length path + 1 + length query
 query_most path [] = omega arith
@@ -151,7 +157,7 @@ search_brief kind wanted short = record {
   target = omega (
     arith,
     collection_short kind,
-    query_most (collection_path kind) (append_pair [] (codes "filter") (filter_text wanted)),
+    query_most (collection_in (codes "/v2") kind) (append_pair [] (codes "filter") (filter_text wanted)),
     parameter_short (codes "filter") (filter_text wanted),
     short,
   );

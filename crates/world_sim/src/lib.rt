@@ -16,6 +16,7 @@ mod reading;
 mod reports;
 mod runs;
 mod schedules;
+mod services;
 mod settling;
 mod several;
 mod several_printing;

@@ -5,7 +5,7 @@ ghost use Rattle.world_model.specs.World.{Asked, message_at};
 ghost use Rattle.world_sim.specs.Fitting.{IsFormed};
 ghost use Rattle.world_sim.specs.Messages.{IsMessage, messages_of, says, text_at, texts_of};
 
-use scim_client::ScimService;
+use crate::services::OwnService;
 use scim_message::{Answer, Request};
 use std::alloc::{AllocError, Global};
 
@@ -44,7 +44,7 @@ impl Drop for Sent {
 /// The message of a request.
 pub(crate) fn asked(
     alloc: Global,
-    service: &ScimService,
+    service: &OwnService,
     request: Request,
 ) -> Result<Sent, AllocError>
     ensures message { IfOk result (λ sent. IsMessage service.now sent (Asked request)) }

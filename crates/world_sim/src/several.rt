@@ -7,9 +7,10 @@ ghost use Rattle.world_sim.specs.declared.reports.WorldFault.TheVariants.{Memory
 use crate::events::Event;
 use crate::messages::Sent;
 use crate::reports::{Report, WorldFault};
+use crate::services::keeps_form;
 use crate::settling::{Count, settle};
 use crate::sides::Side;
-use crate::worlds::{World, keeps_form, start};
+use crate::worlds::{World, start};
 use connector_core::Connector;
 use core::mem::swap;
 use journal_core::{Journal, ReopenJournal};

@@ -9,7 +9,6 @@ ghost use Rattle.journal_core.specs.Calls as journals;
 ghost use Rattle.provider_core.specs.Calls as registries;
 ghost use Rattle.provider_core.specs.Outcomes.{outcome};
 ghost use Rattle.scim_client.specs.Answers.{AnswersSo};
-ghost use Rattle.scim_key.specs.Bases.{IsBase};
 ghost use Rattle.scim_message.specs.declared.messages.Answer.{Answer};
 ghost use Rattle.scim_http.specs.Replies.{answer_text};
 ghost use Rattle.source_csv.specs.Records.{IsRow};
@@ -27,12 +26,12 @@ use crate::events::Event;
 use crate::messages::{Said, Sent, SentRequest, asked, sent_at};
 use crate::reading::{ReadingFault, read_answered, read_asked, read_cut};
 use crate::reports::{Report, WorldFault};
+use crate::services::{OwnService, keeps_form};
 use crate::sides::{Side, reopened};
 use connector_core::{Ask, AskFault, ChangeFault, Connector, LearnFault};
 use core::mem::replace_with;
 use journal_core::{Journal, ReopenJournal};
 use provider_core::{Pending, Provider, Registry, Reopen};
-use scim_client::ScimService;
 use scim_http::response_of;
 use scim_key::{Base, RecordName};
 use scim_message::{Answer, Request};
@@ -42,7 +41,7 @@ use std::alloc::Global;
 /// A provider over a registry, a connector over a journal, and all messages that they ever sent.
 pub struct World<R: Registry + Drop, J: Journal + Drop> {
     pub(crate) alloc: Global,
-    pub(crate) service: ScimService,
+    pub(crate) service: OwnService,
     pub(crate) provider: Provider<R>,
     /// Whether the provider's registry is open: false after a reopening that failed.
     pub(crate) is_provider_open: bool,
@@ -129,7 +128,7 @@ fn learn<J: Journal>(
     ensures counted { IfErr result
         (CountsWorldFault (J.faults connector.old.journal) (J.faults connector.new.journal)) }
 {
-    match connector.learn(request, answer) {
+    match connector.learn(connector_core::Keeps::Revisions, request, answer) {
         Ok(learnt) => Ok(Report::Taught(Ok(learnt))),
         Err(fault) => unlearnt(fault),
     }
@@ -219,13 +218,6 @@ fn keeps_limits(row: &Row)
     let _ = row.revision();
 }
 
-/// The type of a base guarantees its form.
-pub(crate) fn keeps_form(base: &Base)
-    ensures { IsBase base.now }
-{
-    let _ = base.as_str();
-}
-
 /// The answer to a request, the change of the rows, and the bytes of the reply.
 pub(crate) fn prepared<R: Registry>(
     alloc: Global,
@@ -283,7 +275,7 @@ impl<R: Registry + Drop, J: Journal + Drop> World<R, J> {
         match Connector::open(alloc, journal) {
             Ok(connector) => Ok(World {
                 alloc,
-                service: ScimService::new(base),
+                service: OwnService::new(base),
                 provider: Provider::new(registry),
                 is_provider_open: true,
                 connector: Side::Open(connector),

@@ -3,11 +3,16 @@ use Rattle.connector_core.specs.Asking.{asking}
 use Rattle.connector_core.specs.Maps.{book_of}
 use Rattle.connector_core.specs.declared.asking.Ask.TheVariants as asks
 use Rattle.world_model.specs.World.{Sends}
-use Rattle.world_sim.proofs.Steps.{sends_told}
+use Rattle.world_sim.proofs.Steps.{sends_nothing, sends_told}
 use Rattle.world_sim.proofs.GoingOn.{apart_provider, fails_on_send, sends_nothing_on, sends_on}
 use Rattle.world_sim.proofs.Keeping.{on_err}
 use Rattle.world_sim.specs.Running.{known_in}
 use Rattle.world_sim.proofs.worlds.World.send.Goals as goal
+
+pub returns-in-Ok-Waits-clause-done : goal.returns-in-Ok-Waits-clause-done
+returns-in-Ok-Waits-clause-done g c =
+    let asked : asking (book_of c.in-Open.connector.book) c.args.name.now ≡ Some (asks.Waits c.in-Ok-Waits.member) = search rules in
+    sends_nothing g.R.Registry g.J.Journal c.args.self.now c.in-Open.connector c.args.name.now (Some (asks.Waits c.in-Ok-Waits.member)) _ c.in-Open.is asked (λ w. refl) (λ n. refl)
 
 pub returns-in-Ok-Send-clause-done : goal.returns-in-Ok-Send-clause-done
 returns-in-Ok-Send-clause-done g c =
