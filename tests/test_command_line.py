@@ -17,6 +17,7 @@ NOT_PARSED = [
     ["loop"],
     ["loop", "--groups", "absent"],
     [*LOOP, "more"],
+    [*LOOP, "--path", "/scim/v2"],
     ["map"],
     ["map", "a", "b"],
     ["push", "--users", "absent", "--to", "127.0.0.1:1"],
@@ -38,6 +39,10 @@ NOT_PARSED = [
 BASE = "error: --base is http://HOST/v2"
 # Its host has a byte more than it may
 LONG_BASE = f"http://{'a' * 101}/v2"
+SERVICE_PATH = "error: --path is one segment or more, such as /scim/v2, and at most 200 bytes"
+# No segment, an empty one, a byte that no segment has, an escape that is none, and a byte too many
+NO_PATHS = ["", "/", "scim/v2", "/v2/", "//v2", "/scim//v2", "/v2?x", "/v2#x", "/a b", "/é", "/%", "/%2", "/%2g", "/a\\b"]
+NO_PATHS += [f"/{'a' * 200}", "/v2\"", "/[v2]", "/v2%2F/"]
 REQUESTS = "error: --requests is 1 to 1000000"
 LONGEST_SEARCH = "error: --longest-search is 1 to 3600 seconds"
 SHOW = "error: show takes one of --store FILE and --journal FILE"
@@ -46,6 +51,8 @@ INVALID = [
     *((["answer", "--base", base], BASE) for base in ("ftp://x/v2", "http://x", "http:///v2", LONG_BASE, "")),
     ([*LOOP, "--base", "http://x"], BASE),
     ([*PUSH, "--base", "ftp://x/v2"], BASE),
+    *(([*PUSH, "--path", path], SERVICE_PATH) for path in NO_PATHS),
+    (["check", "--journal", "journal", "--to", "127.0.0.1:1", "--path", "/v2/"], SERVICE_PATH),
     ([*SERVE, "--base", "http://x"], BASE),
     *(([*SERVE[:-1], count], REQUESTS) for count in ("0", "1000001", "4294967295")),
     *(([*SERVE, "--longest-search", seconds], LONGEST_SEARCH) for seconds in ("0", "3601", "4294967295")),

@@ -16,7 +16,7 @@ from support import (
 
 NAMES = [
     "searches", "one user of a name", "source extension", "enterprise extension", "If-Match", "strong version",
-    "Content-Length", "201 and 200",
+    "new versions", "Content-Length", "201 and 200",
 ]
 LATE_MESSAGE = "push can't notice it: a late message can switch a leaver on"
 ANN = {"schemas": [USER], "userName": "ann", "active": True, SOURCE: {"revision": 1}}
@@ -147,6 +147,18 @@ class ShowsNoTag(SmallProvider):
         return "v" + super().version(id)[2:-1]
 
 
+class KeepsVersionsOfEqualContents(DropsExtension):
+    def keep(self, content, id=None):
+        known = {name: value for name, value in content.items() if name != SOURCE}
+        held = without(self.users[id], "changes") if id else None
+        return id if known == held else super().keep(content, id)
+
+
+class MakesVersionsFromContents(DropsExtension):
+    def version(self, id):
+        return f'"{hash(json.dumps(without(self.users[id], "changes")))}"'
+
+
 class SendsChunks(SmallProvider):
     def replaced(self, id):
         body = json.dumps(self.shown(id)).encode()
@@ -183,6 +195,10 @@ NO_USER = "can't be tried: {}. There is no user to try it with".format
 TWO_OF_A_NAME = (
     "not met: one user of a name. A second user of the name was created, in capitals. Then both stay unconfirmed: C1"
 )
+DROPPED = (
+    "not met: source extension. The user is shown without its revision. Joiners get an account, and leavers keep it: C1"
+)
+UNVERSIONED = "can't be tried: new versions. The user wasn't replaced and shown with a version each time"
 # What is printed in place of `met`, for each provider
 BROKEN = {
     IgnoresFilters: [
@@ -202,16 +218,20 @@ BROKEN = {
         "not met: one user of a name. A search in capitals doesn't find the user. A login that is spelled anew stays "
         "unconfirmed",
     ],
-    DropsExtension: [
-        "not met: source extension. The user is shown without its revision. Joiners get an account, and leavers keep "
-        "it: C1",
-    ],
+    DropsExtension: [DROPPED],
     RefusesExtension: [
         "not met: source extension. A user with it is refused. Nobody gets an account, and leavers keep theirs: C4",
     ],
-    ListsWithoutExtension: [
-        "not met: source extension. The user is shown without its revision. Joiners get an account, and leavers keep "
-        "it: C1",
+    ListsWithoutExtension: [DROPPED],
+    KeepsVersionsOfEqualContents: [
+        DROPPED,
+        "not met: new versions. A replacement that changes nothing keeps the version. With versions alone, "
+        f"{LATE_MESSAGE}",
+    ],
+    MakesVersionsFromContents: [
+        DROPPED,
+        "not met: new versions. A replacement that changes nothing keeps the version. With versions alone, "
+        f"{LATE_MESSAGE}",
     ],
     KeepsTheFirstRevision: [
         "not met: source extension. The user is shown with another revision than it was given. Leavers keep their "
@@ -233,6 +253,7 @@ BROKEN = {
     ShowsNoVersion: [
         "can't be tried: If-Match. The user is shown without a version",
         "not met: strong version. The user is shown without meta.version. Accounts can't be replaced: C2",
+        UNVERSIONED,
     ],
     ShowsWeakVersions: [
         'not met: strong version. The version W/"v1" is weak. New records are confirmed, and changed ones may stay '
@@ -242,11 +263,14 @@ BROKEN = {
         "not met: If-Match. The version that the user has is refused. Changed records stay unconfirmed",
         'not met: strong version. The version W/"v1" is weak. New records are confirmed, and changed ones may stay '
         "unconfirmed",
+        UNVERSIONED,
         "not met: 201 and 200. A replacement is answered 412. Changed records stay unconfirmed",
     ],
     ShowsOneVersion: [
         f"not met: If-Match. An old version was replaced. {LATE_MESSAGE}",
         f"not met: strong version. The version stays when the user changes. {LATE_MESSAGE}",
+        "not met: new versions. A replacement that changes nothing keeps the version. With versions alone, "
+        f"{LATE_MESSAGE}",
     ],
     ShowsNoTag: [
         "not met: strong version. The version v1 isn't an entity tag, as \"1\" is. Accounts can't be replaced: C2",
@@ -269,6 +293,10 @@ BROKEN = {
         "unconfirmed until the push after that: K1, K2 or K3",
     ],
 }
+
+# Whom `push` can use by their versions
+BY_VERSIONS = {DropsExtension, RefusesExtension, ListsWithoutExtension, KeepsTheFirstRevision}
+USELESS = "don't rely on push with this provider"
 
 JOINS, LEAVES = "bob,1,,,,,active", "bob,2,,,,,left"
 # What push prints of bob, who joins and then leaves, at a provider for which the tool says so
@@ -295,14 +323,18 @@ PUSHES = {
 
 
 class TryProviderTest(ProgramTest):
-    def assert_tells(self, run, *other):
-        """The tool printed these lines, and `met` for each other condition; the last line is of the user."""
-        *lines, last = run.lines
+    def assert_tells(self, run, *other, use=USELESS):
+        """The tool printed these lines, and `met` for each other condition, and how to push; the last is of the user."""
+        *lines, by, last = run.lines
         names = [re.match(r"[^:]*: ([^.]*)\. ", line)[1] for line in lines]
         self.assertEqual((names, run.errors), (NAMES, ""))
         self.assertEqual([line for line in lines if not line.startswith("met: ")], list(other))
-        self.assertEqual(run.status, 1 if other else 0)
+        self.assertEqual((by, run.status), (use, 1 if use is USELESS else 0))
         return last
+
+    def use_of(self, address, *options):
+        """How the tool says to push to this address."""
+        return " ".join(["push by: scimlink push --users FILE --journal FILE --to", address, *options])
 
     def assert_left_inactive(self, provider, last):
         """The user that was made is inactive, and nobody else was touched."""
@@ -313,8 +345,8 @@ class TryProviderTest(ProgramTest):
         self.assertEqual({user["active"] for user in ours}, {False})
 
     def test_scimlink(self):
-        with Provider(20) as provider:
-            last = self.assert_tells(try_provider("--to", provider.address))
+        with Provider(40) as provider:
+            last = self.assert_tells(try_provider("--to", provider.address), use=self.use_of(provider.address))
             name = last.split()[2]
             found = provider.ask("GET", f"/v2/Users?filter=userName+eq+%22{name}%22").content["Resources"]
             self.assertEqual([user["active"] for user in found], [False])
@@ -323,13 +355,16 @@ class TryProviderTest(ProgramTest):
 
     def test_a_provider_that_meets_all(self):
         with SmallProvider(ANN) as provider:
-            self.assert_left_inactive(provider, self.assert_tells(try_provider("--to", provider.address)))
+            run = try_provider("--to", provider.address)
+            self.assert_left_inactive(provider, self.assert_tells(run, use=self.use_of(provider.address)))
 
     def test_providers_that_break_a_condition(self):
         for kind, lines in BROKEN.items():
             with self.subTest(kind.__name__), kind(ANN) as provider:
                 run = try_provider("--to", provider.address)
-                self.assert_left_inactive(provider, self.assert_tells(run, *lines))
+                by_versions = self.use_of(provider.address, "--provider-keeps versions")
+                use = by_versions if kind in BY_VERSIONS else USELESS if lines else self.use_of(provider.address)
+                self.assert_left_inactive(provider, self.assert_tells(run, *lines, use=use))
 
     def test_push_prints_what_the_tool_says(self):
         for kind, pushes in PUSHES.items():
@@ -378,7 +413,7 @@ class TryProviderTest(ProgramTest):
             ),
         ):
             with self.subTest(kind.__name__), kind() as provider:
-                lines = [searches, *map(NO_USER, NAMES[1:6]), *filter(None, [length])]
+                lines = [searches, *map(NO_USER, NAMES[1:7]), *filter(None, [length])]
                 last = self.assert_tells(
                     try_provider("--to", provider.address), *lines, f"not met: 201 and 200. {refused(creation)}"
                 )
@@ -427,6 +462,16 @@ class TryProviderTest(ProgramTest):
             self.assertEqual(provider.users["1"]["active"], False)
         run = try_provider("--to", NOWHERE)
         self.assertEqual((run.status, run.output, run.errors), (3, b"", "no connection: Connection refused\n"))
+
+    def test_another_path_and_base(self):
+        class HasAPath(DropsExtension):
+            def respond(self, lines, body):
+                return super().respond([lines[0].replace(" /a'b/", " /v2/"), *lines[1:]], body)
+
+        with HasAPath(ANN) as provider:
+            run = try_provider("--to", provider.address, "--base", "http://a.example/v2", "--path", "/a'b")
+            options = ["--base http://a.example/v2", "--path '/a'\"'\"'b'", "--provider-keeps versions"]
+            self.assertEqual((run.lines[-2], run.status), (self.use_of(provider.address, *options), 0))
 
     def test_the_command_line(self):
         for arguments in ([], ["--to", "127.0.0.1"], ["--to", "[::1:1"], ["--to", "a b:80"], ["--to", "a:+80"],

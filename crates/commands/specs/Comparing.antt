@@ -14,14 +14,15 @@ use Rattle.provisioning.specs.DryRuns.{IsOver}
 use Rattle.provisioning.specs.Offering.{OffersAll}
 use Rattle.provisioning.specs.declared.faults.RunFault.{RunFault}
 use Rattle.provisioning.specs.declared.sources.Sources.{Sources}
+use Rattle.provisioning.specs.Services.{Service}
 use Rattle.checking.specs.Checks.{ChecksAloud}
 use Rattle.checking.specs.Counting.{are_in_step}
 use Rattle.checking.specs.declared.counts.Counts.{Counts}
 use Rattle.commands.specs.Causes.{concluded}
-use Rattle.commands.specs.Manners.{GivesStreams}
+use Rattle.commands.specs.Manners.{GivesStreams, wanted_keeps}
 use Rattle.commands.specs.Planning.{IsReadFrom}
 use Rattle.commands.specs.Running.{IsJob, ReadsFiles}
-use Rattle.commands.specs.Words.{wanted_base}
+use Rattle.commands.specs.Words.{wanted_service}
 use Rattle.commands.specs.declared.jobs.Job.{Job}
 use Rattle.commands.specs.declared.status.CommandFault.{CommandFault}
 use Rattle.commands.specs.declared.status.CommandFault.TheVariants as fault
@@ -49,26 +50,28 @@ OffersFiles h found old new taken =
 
 module _ {I O : Type 0} (remaining : I → Option (List ℕ)) (contents : O → Option (List ℕ)) where
   -- the records of this book were checked; the status is that of the counts, or the fault has the system's error
-  abbrev pub EndsChecking : (base : List ℕ) → BookMap → (taken : Bool) → (last : Option Error)
+  abbrev pub EndsChecking : Service → BookMap → (taken : Bool) → (last : Option Error)
       → Result Status CommandFault → Type 0
-  EndsChecking base book taken last ended = (checked : Result Counts RunFault)
-      × ChecksAloud remaining contents base book checked × (ended ≡ concluded last (checked_status checked taken))
+  EndsChecking service book taken last ended = (checked : Result Counts RunFault)
+      × ChecksAloud remaining contents service book checked × (ended ≡ concluded last (checked_status checked taken))
 
-  -- The records of a copy of the journal, to which the rows of the files were offered, were checked: at the base that
-  -- the arguments name, with as many streams as they say
+  -- The records of a copy of the journal, to which the rows of the files were offered, were checked: at the service
+  -- that the arguments name, as one that keeps what they say, with as many streams as they say
   pub record IsCheckedFrom {J L M : Type 0} (g : Journals J) (h : Journals M) (finds : EntryMap → Type 0)
       (is_closed : J → L → Type 0) (found : Found) (status : Status) : Type 0 where
-    pub base : List ℕ
+    pub service : Service
     pub streams : ℕ
     pub copy : State M
     pub offered : State M
     pub taken : Bool
     pub last : Option Error
-    pub base_is : wanted_base (first_value found (codes "base")) ≡ Ok base
+    pub service_is : wanted_service (first_value found (codes "base")) (first_value found (codes "path"))
+        ≡ Ok service.base
+    pub keeps : wanted_keeps (first_value found (codes "provider-keeps")) ≡ Ok service.keeps
     pub streams_are : GivesStreams (first_value found (codes "streams")) (one_text found (codes "streams")) (Ok streams)
     pub copied : IsCopyOf g finds is_closed copy.book
     pub offers : OffersFiles h found copy offered taken
-    pub ends : EndsChecking base offered.book taken last (Ok status)
+    pub ends : EndsChecking service offered.book taken last (Ok status)
 
   -- from the journal that was named
   abbrev pub IsCheckedAt : {J L M H : Type 0} → Journals J → Journals M → (finds : H → EntryMap → Type 0)

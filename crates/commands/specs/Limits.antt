@@ -7,8 +7,9 @@ use Rattle.connector_core.specs.State.{State}
 use Rattle.provisioning.specs.Leavers.{leavers_by}
 use Rattle.provisioning.specs.declared.faults.RunFault.{RunFault}
 use Rattle.provisioning.specs.declared.sources.Sources.{Sources}
+use Rattle.provisioning.specs.Services.{Service}
 use Rattle.checking.specs.Rechecks.{RechecksAt}
-use Rattle.commands.specs.Running.{PushesKnown, ReadsFiles, RunsOver, numbering_of}
+use Rattle.commands.specs.Running.{PushesKnown, ReadsFiles, RunsOver, numbering_of, service_of}
 use Rattle.commands.specs.declared.jobs.Job.{Job}
 use Rattle.commands.specs.declared.manners.Delivery.{Delivery}
 use Rattle.commands.specs.declared.status.CommandFault.{CommandFault}
@@ -52,7 +53,7 @@ module _ {I O J : Type 0} (remaining : I → Option (List ℕ)) (contents : O �
       → Result Status CommandFault → Type 0
   IsCarried delivery job most rechecked old new ended = (sources : Sources)
       × Approves job most rechecked old.book (Some sources)
-      × PushesKnown remaining contents g delivery job.service sources old new ended
+      × PushesKnown remaining contents g delivery (service_of job delivery) sources old new ended
 
   -- more users than this would be switched off: the connector is as it was
   abbrev pub IsStopped : Job → (most : Option ℕ) → (rechecked : ℕ) → (old new : State J) → Result Status CommandFault
@@ -72,9 +73,9 @@ module _ {I O J : Type 0} (remaining : I → Option (List ℕ)) (contents : O �
       ⊎ (IsStopped job most rechecked old new ended ⊎ IsFailed old new ended)
 
   -- if a recheck is wanted, it doubts what differs, and so many users would be switched off by it; or it ended early
-  abbrev pub BeginsBy : (is_rechecked : Bool) → (base : List ℕ) → (old new : State J) → Result ℕ RunFault → Type 0
-  BeginsBy true base old new begun = RechecksAt remaining contents base old new begun
-  BeginsBy false base old new begun = (new ≡ old) × (begun ≡ Ok 0)
+  abbrev pub BeginsBy : (is_rechecked : Bool) → Service → (old new : State J) → Result ℕ RunFault → Type 0
+  BeginsBy true service old new begun = RechecksAt remaining contents service old new begun
+  BeginsBy false service old new begun = (new ≡ old) × (begun ≡ Ok 0)
 
   -- the push goes on from the connector that this leaves; or its fault ends the push
   abbrev pub GoesOnAs : Delivery → Job → (most : Option ℕ) → (between new : State J) → Result ℕ RunFault
@@ -87,7 +88,7 @@ module _ {I O J : Type 0} (remaining : I → Option (List ℕ)) (contents : O �
   abbrev pub PushesChecked : Delivery → Job → (most : Option ℕ) → (old new : State J)
       → Result Status CommandFault → Type 0
   PushesChecked delivery job most old new ended = (between : State J) × (begun : Result ℕ RunFault)
-      × BeginsBy delivery.is_rechecked job.service old between begun
+      × BeginsBy delivery.is_rechecked (service_of job delivery) old between begun
       × GoesOnAs delivery job most between new begun ended
 
   -- by a connector over a journal that was opened for it, and closed; or the journal couldn't be opened or read

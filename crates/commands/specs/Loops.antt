@@ -12,6 +12,7 @@ use Rattle.provisioning.specs.declared.carrying.Outcome.{Outcome}
 use Rattle.provisioning.specs.declared.faults.RunFault.{RunFault}
 use Rattle.provisioning.specs.declared.faults.RunFault.TheVariants.{Memory}
 use Rattle.provisioning.specs.declared.sources.Sources.{Sources}
+use Rattle.provisioning.specs.Services.{keeping_at}
 use Rattle.commands.specs.declared.looping.faults.LoopFault.{LoopFault}
 use Rattle.commands.specs.declared.looping.faults.LoopFault.TheVariants.{Ended, Store}
 
@@ -19,7 +20,7 @@ use Rattle.commands.specs.declared.looping.faults.LoopFault.TheVariants.{Ended, 
 abbrev pub CarriesHere : {I O J : Type 0} → (I → Option (List ℕ)) → (O → Option (List ℕ)) → Ghosts J
     → List ℕ → Sources → (old new : State J) → Result Outcome RunFault → Type 0
 CarriesHere remaining contents g base sources old new result =
-    CarriesSilently remaining contents g base sources old new result
+    CarriesSilently remaining contents g (keeping_at base) sources old new result
     ⊎ ((fault : RunFault) × (result ≡ Err fault) × (new ≡ old))
 
 -- a fault of the provider's store is counted; no other fault is one

@@ -1,5 +1,6 @@
 -- How a push is carried out, by its arguments.
-use Rattle.std.specs.Prelude.{◌≡◌, ◌⊎◌, ◌≤◌, ℕ, Bool, false, List, Option, Some, None, Result, Ok, Err, codes}
+use Rattle.std.specs.Prelude.{◌≡◌, ◌⊎◌, ◌≤◌, ℕ, Bool, false, List, Option, Some, None, Result, Ok, Err, codes, if◌then◌else◌}
+use Rattle.std.specs.Str.{bytes_eq}
 use Rattle.clap.specs.Matches.{first_value, one_text}
 use Rattle.clap.specs.declared.parser.matches.Found.{Found}
 use Rattle.provisioning.specs.declared.paces.TheConstants.{MOST_STREAMS}
@@ -10,6 +11,8 @@ use Rattle.commands.specs.declared.manners.Manner.{Manner}
 use Rattle.commands.specs.declared.manners.TheConstants.{LONGEST_STREAK, MOST_LEAVERS}
 use Rattle.commands.specs.declared.status.CommandFault.{CommandFault}
 use Rattle.commands.specs.declared.status.CommandFault.TheVariants as fault
+use Rattle.connector_core.specs.declared.keeps.Keeps.{Keeps}
+use Rattle.connector_core.specs.declared.keeps.Keeps.TheVariants.{Revisions, Versions}
 
 -- the text spells this number, which is within the limit
 abbrev pub IsUpTo : (limit : ℕ) → Option (List ℕ) → ℕ → Type 0
@@ -38,6 +41,18 @@ GivesGiveUp (Some value) text (Ok limit) = IsUpTo LONGEST_STREAK text limit
 GivesGiveUp (Some value) text (Err why) =
     (why ≡ fault.GiveUpAfter) × ((limit : ℕ) → IsUpTo LONGEST_STREAK text limit → ⊥)
 
+-- what the provider keeps, by its name
+abbrev pub named_keeps : List ℕ → Result Keeps CommandFault
+named_keeps text =
+    if bytes_eq text (codes "revisions") then Ok Revisions
+    else if bytes_eq text (codes "versions") then Ok Versions
+    else Err fault.ProviderKeeps
+
+-- revisions, if `--provider-keeps` isn't there
+abbrev pub wanted_keeps : (value : Option (List ℕ)) → Result Keeps CommandFault
+wanted_keeps None = Ok Revisions
+wanted_keeps (Some text) = named_keeps text
+
 -- what these arguments want
 pub record IsManner (found : Found) (manner : Manner) : Type 0 where
   pub planned : manner.is_planned ≡ is_set (one_text found (codes "plan"))
@@ -50,12 +65,14 @@ pub record IsManner (found : Found) (manner : Manner) : Type 0 where
   pub leavers_first : manner.delivery.pace.leavers_first ≡ is_set (one_text found (codes "leavers-first"))
   pub give_up : GivesGiveUp (first_value found (codes "give-up-after")) (one_text found (codes "give-up-after"))
       (Ok manner.delivery.pace.give_up_after)
+  pub keeps : wanted_keeps (first_value found (codes "provider-keeps")) ≡ Ok manner.delivery.keeps
 
--- that; or one of the numbers isn't within its limits
+-- that; or one of the numbers isn't within its limits, or what the provider keeps has another name
 abbrev pub GivesManner : Found → Result Manner CommandFault → Type 0
 GivesManner found (Ok manner) = IsManner found manner
 GivesManner found (Err why) =
     GivesMost (one_text found (codes "most-leavers")) (first_value found (codes "most-leavers")) (is_snapshot found)
     (Err why)
     ⊎ (GivesStreams (first_value found (codes "streams")) (one_text found (codes "streams")) (Err why)
-    ⊎ GivesGiveUp (first_value found (codes "give-up-after")) (one_text found (codes "give-up-after")) (Err why))
+    ⊎ (GivesGiveUp (first_value found (codes "give-up-after")) (one_text found (codes "give-up-after")) (Err why)
+    ⊎ (wanted_keeps (first_value found (codes "provider-keeps")) ≡ Err why)))

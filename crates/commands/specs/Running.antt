@@ -31,12 +31,13 @@ use Rattle.provisioning.specs.declared.faults.RunFault.{RunFault}
 use Rattle.provisioning.specs.declared.paces.Pace.{Pace}
 use Rattle.provisioning.specs.declared.sources.Sources.{Sources}
 use Rattle.provisioning.specs.declared.sources.UnreadFile.{UnreadFile}
+use Rattle.provisioning.specs.Services.{Service}
 use Rattle.commands.specs.Addresses.{text_in}
 use Rattle.commands.specs.Causes.{concluded, source_part}
 use Rattle.commands.specs.Layouts.{GivesLayouts}
 use Rattle.commands.specs.Scopes.{IsScope, are_records}
 use Rattle.commands.specs.Statuses.{journal_fault, pushed_status, reset_status, shown_status, unread_fault}
-use Rattle.commands.specs.Words.{wanted, wanted_base}
+use Rattle.commands.specs.Words.{wanted, wanted_service}
 use Rattle.commands.specs.declared.jobs.Job.{Job}
 use Rattle.commands.specs.declared.manners.Delivery.{Delivery}
 use Rattle.commands.specs.declared.status.CommandFault.{CommandFault}
@@ -93,20 +94,22 @@ IsShown rows at entries of _ _ status = ⊥
 
 -- ---- what `push` and `loop` carry
 
--- what these arguments name: the file of users, that of groups if there is one, the base of the service, and how the
--- files are laid out if they are snapshots
+-- what these arguments name: the file of users, that of groups if there is one, the service, and how the files are laid
+-- out if they are snapshots
 pub record IsJob (found : Found) (job : Job) : Type 0 where
   pub users : first_value found (codes "users") ≡ Some job.users.now
   pub groups : first_value found (codes "groups") ≡ text_in job.groups
-  pub base : wanted_base (first_value found (codes "base")) ≡ Ok job.service
+  pub service : wanted_service (first_value found (codes "base")) (first_value found (codes "path")) ≡ Ok job.service
   pub layouts : GivesLayouts found (Ok job.layouts)
 
--- that; or the file of users isn't named, or the base is none, or the layouts are none, or memory ran out
+-- that; or the file of users isn't named, or the service is none, or the layouts are none, or memory ran out
 abbrev pub GivesJob : Found → Result Job CommandFault → Type 0
 GivesJob found (Ok job) = IsJob found job
 GivesJob found (Err why) =
     (wanted fault.File (first_value found (codes "users")) ≡ Err why)
-    ⊎ (Gives fault.Memory (Err why) (wanted_base (first_value found (codes "base"))) ⊎ GivesLayouts found (Err why))
+    ⊎ (Gives fault.Memory (Err why)
+    (wanted_service (first_value found (codes "base")) (first_value found (codes "path")))
+    ⊎ GivesLayouts found (Err why))
 
 -- what numbers the files of a job, if they are snapshots: the wanted rows of this book
 abbrev pub numbering_of : Job → BookMap → Option Numbering
@@ -155,25 +158,28 @@ RunsOver {J} {L} g finds is_closed runs ended =
 
 -- ---- `push`
 
+-- the service of a job, and what its provider keeps
+abbrev pub service_of : Job → Delivery → Service
+service_of job delivery = record { base = job.service; keeps = delivery.keeps }
+
 module _ {I O J : Type 0} (remaining : I → Option (List ℕ)) (contents : O → Option (List ℕ)) (g : Journals J) where
   -- the records of these sources were carried at this pace, and reported in this way
-  abbrev pub CarriesAs : (quiet : Bool) → Pace → (base : List ℕ) → Sources → (old new : State J)
+  abbrev pub CarriesAs : (quiet : Bool) → Pace → Service → Sources → (old new : State J)
       → Result Outcome RunFault → Type 0
-  CarriesAs true pace base sources old new carried =
-      CarriesQuietly remaining contents g pace base sources old new carried
-  CarriesAs false pace base sources old new carried =
-      CarriesSilentlyAt remaining contents g pace base sources old new carried
+  CarriesAs true pace service sources old new carried =
+      CarriesQuietly remaining contents g pace service sources old new carried
+  CarriesAs false pace service sources old new carried =
+      CarriesSilentlyAt remaining contents g pace service sources old new carried
 
   -- The records of these sources were carried; the status is that of this run, or its fault with the system's error
-  abbrev pub Pushes : (quiet : Bool) → Pace → (base : List ℕ) → Sources → (old new : State J) → (last : Option Error)
+  abbrev pub Pushes : (quiet : Bool) → Pace → Service → Sources → (old new : State J) → (last : Option Error)
       → Result Status CommandFault → Type 0
-  Pushes quiet pace base sources old new last ended =
-      (carried : Result Outcome RunFault) × CarriesAs quiet pace base sources old new carried
+  Pushes quiet pace service sources old new last ended =
+      (carried : Result Outcome RunFault) × CarriesAs quiet pace service sources old new carried
       × (ended ≡ concluded last (pushed_status carried))
 
   -- the same; or memory ran out, and the connector is as it was
-  abbrev pub PushesKnown : Delivery → (base : List ℕ) → Sources → (old new : State J) → Result Status CommandFault
-      → Type 0
-  PushesKnown delivery base sources old new ended =
-      ((last : Option Error) × Pushes delivery.is_quiet delivery.pace base sources old new last ended)
+  abbrev pub PushesKnown : Delivery → Service → Sources → (old new : State J) → Result Status CommandFault → Type 0
+  PushesKnown delivery service sources old new ended =
+      ((last : Option Error) × Pushes delivery.is_quiet delivery.pace service sources old new last ended)
       ⊎ ((why : CommandFault) × (ended ≡ Err why) × (new ≡ old))

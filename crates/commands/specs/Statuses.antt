@@ -64,6 +64,7 @@ abbrev pub fault_status : CommandFault → Status
 fault_status fault.Words = Usage
 fault_status fault.Subcommand = Usage
 fault_status fault.Base = Usage
+fault_status fault.Path = Usage
 fault_status fault.Listen = Usage
 fault_status fault.To = Usage
 fault_status fault.Requests = Usage
@@ -73,6 +74,7 @@ fault_status fault.Streams = Usage
 fault_status fault.GiveUpAfter = Usage
 fault_status fault.Column = Usage
 fault_status fault.Separator = Usage
+fault_status fault.ProviderKeeps = Usage
 fault_status fault.Show = Usage
 fault_status (fault.Events why) = Usage
 fault_status (fault.Users source.Header) = Refused
@@ -115,10 +117,14 @@ unread_fault part error = unless_memory (error_kind error) (fault.Unread part er
 abbrev pub words_fault : IoErrorKind → CommandFault
 words_fault kind = unless_memory kind fault.Words
 
+-- the fault of a text that can't be read: out of memory, or this one
+abbrev pub text_fault : NameFault → (wrong : CommandFault) → CommandFault
+text_fault name.Memory wrong = fault.Memory
+text_fault other wrong = wrong
+
 -- the fault of a base that can't be read
 abbrev pub base_fault : NameFault → CommandFault
-base_fault name.Memory = fault.Memory
-base_fault other = fault.Base
+base_fault why = text_fault why fault.Base
 
 -- a connection is done if a response was written whole
 abbrev pub served_status : Served → Result Status CommandFault

@@ -4,8 +4,10 @@ use denote.Ref.{Bor}
 use Rattle.std.specs.Str.Parse.{IsNumeral, digits_value, without_leading_plus}
 use Rattle.connection.specs.declared.limits.TheConstants.{SEARCH_SECONDS}
 use Rattle.scim_key.specs.Bases.{base_fault}
+use Rattle.scim_key.specs.Outcome.{◌>>=◌}
 use Rattle.scim_key.specs.declared.names.NameFault.{NameFault}
-use Rattle.commands.specs.Statuses.{base_fault as fault_of_base}
+use Rattle.scim_client.specs.ServicePaths.{address_text, service_path_fault}
+use Rattle.commands.specs.Statuses.{base_fault as fault_of_base, text_fault}
 use Rattle.commands.specs.declared.status.CommandFault.{CommandFault}
 use Rattle.commands.specs.declared.status.CommandFault.TheVariants as fault
 use Rattle.commands.specs.declared.words.TheConstants.{MOST_SEARCH_SECONDS}
@@ -28,6 +30,19 @@ as_base (Some why) text = Err (fault_of_base why)
 abbrev pub wanted_base : Option (List ℕ) → Result (List ℕ) CommandFault
 wanted_base None = Err fault.Base
 wanted_base (Some text) = as_base (base_fault text) text
+
+-- a text as the path of a service, by its first fault
+abbrev pub as_path : Option NameFault → (text : List ℕ) → Result (Option (List ℕ)) CommandFault
+as_path None text = Ok (Some text)
+as_path (Some why) text = Err (text_fault why fault.Path)
+
+abbrev pub wanted_path : Option (List ℕ) → Result (Option (List ℕ)) CommandFault
+wanted_path None = Ok None
+wanted_path (Some text) = as_path (service_path_fault text) text
+
+-- the service at the host of the base, with the path in place of the base's if there is one
+abbrev pub wanted_service : (base path : Option (List ℕ)) → Result (List ℕ) CommandFault
+wanted_service base path = wanted_base base >>= (λ origin. wanted_path path >>= (λ own. Ok (address_text origin own)))
 
 -- the number that a text of digits spells
 abbrev pub number_in : (text : List ℕ) → ℕ

@@ -5,16 +5,15 @@ ghost use Rattle.commands.specs.Comparing.{EndsChecking, IsCheckedAt, IsCheckedF
 
 use crate::endings::checked_status;
 use crate::jobs::Job;
-use crate::manners::{is_quiet, streams};
+use crate::manners::{is_quiet, keeps, streams};
 use crate::output::{NotedWriter, standard_output};
 use crate::planning::look_into;
 use crate::status::{CommandFault, Part, Status};
-use crate::words::{base, to, users_if_named};
+use crate::words::{service, to, users_if_named};
 use clap::ArgMatches;
 use connector_core::Connector;
 use journal_core::{Journal, MemoryJournal};
-use provisioning::{RowReports, offer_all, open_copy};
-use scim_client::ScimService;
+use provisioning::{RowReports, ServiceProvider, offer_all, open_copy};
 use std::alloc::Global;
 use std::io::{Read, Write};
 use std::net::Net;
@@ -49,7 +48,12 @@ fn check_named<'a, R: Runtime + Net + AllocGlobal, J: EntryStorage>(
         ⟦<MemoryJournal as Journal>⟧ (J.finds storage.now) J.Entries.is_closed (found_of words.now)) }
 {
     let (to, streams) = (to(words)?, streams(words)?);
-    let service = ScimService::new(base(rt.alloc(), words)?);
+    let at = service(rt.alloc(), words)?;
+    let keeps = keeps(words)?;
+    let service = ServiceProvider {
+        service: &at,
+        keeps,
+    };
     let mut connector = copy_of(rt.alloc(), storage)?;
     let are_taken = offer_files(rt, words, &mut connector)?;
     let mut out = standard_output(rt)?;
@@ -96,7 +100,7 @@ fn copy_of<J: EntryStorage>(
 fn check_to<'a, R: Runtime + Net + AllocGlobal, W: Write + Drop>(
     rt: &'a R,
     connector: &Connector<MemoryJournal>,
-    service: &ScimService,
+    service: &ServiceProvider<'_>,
     is_quiet: bool,
     streams: u32,
     to: &str,

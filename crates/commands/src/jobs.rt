@@ -6,7 +6,7 @@ ghost use Rattle.commands.specs.Running.{GivesJob, ReadsFiles, ReadsJob, numberi
 
 use crate::layouts::layouts;
 use crate::status::CommandFault;
-use crate::words::{base, groups, users};
+use crate::words::{groups, service, users};
 use clap::ArgMatches;
 use connector_core::Connector;
 use journal_core::{Journal, MemoryJournal};
@@ -34,7 +34,7 @@ impl<'a> Job<'a> {
         Ok(Job {
             users: users(words)?,
             groups: groups(words),
-            service: ScimService::new(base(alloc, words)?),
+            service: service(alloc, words)?,
             layouts: layouts(alloc, words)?,
         })
     }

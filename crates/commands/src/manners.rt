@@ -2,13 +2,14 @@
 ghost use Rattle.std.specs.Prelude.{◌≡◌, codes};
 ghost use Rattle.clap.specs.Matches.{first_value, found_of, one_text};
 ghost use Rattle.commands.specs.Layouts.{is_snapshot};
-ghost use Rattle.commands.specs.Manners.{GivesGiveUp, GivesManner, GivesMost, GivesStreams};
+ghost use Rattle.commands.specs.Manners.{GivesGiveUp, GivesManner, GivesMost, GivesStreams, named_keeps, wanted_keeps};
 ghost use Rattle.commands.specs.Simulating.{is_set};
 
 use crate::layouts::is_snapshot;
 use crate::status::CommandFault;
 use crate::words::counted;
 use clap::ArgMatches;
+use connector_core::Keeps;
 use provisioning::{MOST_STREAMS, Pace};
 
 /// The most users that `--most-leavers` may allow.
@@ -40,6 +41,8 @@ pub struct Delivery {
     pub is_rechecked: bool,
     /// How many records are pushed at once, in which order, and when the run gives up.
     pub pace: Pace,
+    /// What the provider keeps of what it is sent.
+    pub keeps: Keeps,
 }
 
 impl Manner {
@@ -58,6 +61,7 @@ impl Manner {
                     leavers_first: leavers_first(words),
                     give_up_after: give_up_after(words)?,
                 },
+                keeps: keeps(words)?,
             },
         })
     }
@@ -127,5 +131,26 @@ fn give_up_after(words: &ArgMatches<'_>) -> Result<u32, CommandFault>
         (None, _) => Ok(GIVE_UP_AFTER),
         (Some(_), Some(limit)) if limit <= LONGEST_STREAK => Ok(limit),
         _ => Err(CommandFault::GiveUpAfter),
+    }
+}
+
+/// What the provider keeps of what it is sent: revisions, unless the arguments say otherwise.
+pub(crate) fn keeps(words: &ArgMatches<'_>) -> Result<Keeps, CommandFault>
+    ensures { result ≡ wanted_keeps (first_value (found_of words.now) (codes "provider-keeps")) }
+{
+    match words.get_str("provider-keeps") {
+        None => Ok(Keeps::Revisions),
+        Some(text) => named_keeps(text),
+    }
+}
+
+/// What a provider keeps, by its name.
+fn named_keeps(text: &str) -> Result<Keeps, CommandFault>
+    ensures { result ≡ named_keeps text.now }
+{
+    match text {
+        "revisions" => Ok(Keeps::Revisions),
+        "versions" => Ok(Keeps::Versions),
+        _ => Err(CommandFault::ProviderKeeps),
     }
 }

@@ -1,9 +1,9 @@
 //! `push`: the connector against the provider at an address.
-ghost use Rattle.std.specs.Prelude.{IfOk};
+ghost use Rattle.std.specs.Prelude.{◌≡◌, IfOk};
 ghost use Rattle.clap.specs.Matches.{found_of};
 ghost use Rattle.commands.specs.Planning.{IsPlanned, IsPushed, IsPushedAt};
 ghost use Rattle.commands.specs.Limits.{BeginsBy, PushesApproved, PushesChecked, PushesOver};
-ghost use Rattle.commands.specs.Running.{CarriesAs, GivesConnector, Pushes, PushesKnown};
+ghost use Rattle.commands.specs.Running.{CarriesAs, GivesConnector, Pushes, PushesKnown, service_of};
 
 use crate::endings::pushed_status;
 use crate::jobs::Job;
@@ -17,8 +17,7 @@ use checking::recheck;
 use clap::ArgMatches;
 use connector_core::Connector;
 use journal_core::{Journal, MemoryJournal};
-use provisioning::{Outcome, RunFault, Sources, push_quietly};
-use scim_client::ScimService;
+use provisioning::{Outcome, RunFault, ServiceProvider, Sources, push_quietly};
 use std::alloc::Global;
 use std::io::{Read, Write};
 use std::net::Net;
@@ -110,9 +109,20 @@ fn push_checked<'a, R: Runtime + Net + AllocGlobal, J: Journal>(
         ⟦<TimedHandle<'a, R::Stream, R> as Write>⟧.contents J.Journal delivery job.now most
         connector.old connector.new result }
 {
-    match begun(rt, connector, &job.service, to, delivery) {
+    let service = service_of(job, delivery);
+    match begun(rt, connector, &service, to, delivery) {
         Ok(rechecked) => push_approved(rt, connector, job, to, delivery, most, rechecked),
         Err(fault) => Err(CommandFault::Run(fault)),
+    }
+}
+
+/// The service of a job, and what its provider keeps.
+fn service_of<'a>(job: &'a Job<'_>, delivery: Delivery) -> ServiceProvider<'a>
+    ensures { result ≡ service_of job.now delivery }
+{
+    ServiceProvider {
+        service: &job.service,
+        keeps: delivery.keeps,
     }
 }
 
@@ -120,7 +130,7 @@ fn push_checked<'a, R: Runtime + Net + AllocGlobal, J: Journal>(
 fn begun<'a, R: Runtime + Net + AllocGlobal, J: Journal>(
     rt: &'a R,
     connector: &mut Connector<J>,
-    service: &ScimService,
+    service: &ServiceProvider<'_>,
     to: &str,
     delivery: Delivery,
 ) -> Result<usize, RunFault>
@@ -198,8 +208,8 @@ fn push_known<'a, R: Runtime + Net + AllocGlobal, J: Journal>(
     delivery: Delivery,
 ) -> Result<Status, CommandFault>
     ensures { PushesKnown ⟦<TimedHandle<'a, R::Stream, R> as Read>⟧.remaining
-        ⟦<TimedHandle<'a, R::Stream, R> as Write>⟧.contents J.Journal delivery job.now.service
-        sources.now connector.old connector.new result }
+        ⟦<TimedHandle<'a, R::Stream, R> as Write>⟧.contents J.Journal delivery
+        (service_of job.now delivery) sources.now connector.old connector.new result }
 {
     let mut out = standard_output(rt)?;
     push_to(rt, connector, job, sources, to, delivery, &mut out)
@@ -217,9 +227,11 @@ fn push_to<'a, R: Runtime + Net + AllocGlobal, J: Journal, W: Write + Drop>(
 ) -> Result<Status, CommandFault>
     ensures { Pushes ⟦<TimedHandle<'a, R::Stream, R> as Read>⟧.remaining
         ⟦<TimedHandle<'a, R::Stream, R> as Write>⟧.contents J.Journal delivery.is_quiet
-        delivery.pace job.now.service sources.now connector.old connector.new out.new.last result }
+        delivery.pace (service_of job.now delivery) sources.now connector.old connector.new
+        out.new.last result }
 {
-    let carried = push_as(rt, connector, &job.service, sources, to, delivery, out);
+    let service = service_of(job, delivery);
+    let carried = push_as(rt, connector, &service, sources, to, delivery, out);
     out.concluded(pushed_status(carried))
 }
 
@@ -228,7 +240,7 @@ fn push_to<'a, R: Runtime + Net + AllocGlobal, J: Journal, W: Write + Drop>(
 fn push_as<'a, R: Runtime + Net + AllocGlobal, J: Journal, W: Write>(
     rt: &'a R,
     connector: &mut Connector<J>,
-    service: &ScimService,
+    service: &ServiceProvider<'_>,
     sources: &Sources,
     to: &str,
     delivery: Delivery,

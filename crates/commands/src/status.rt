@@ -13,6 +13,7 @@ use connection::ConnectionFault;
 use mapping::WriteFault;
 use provider_store::RegistryOpenFault;
 use provisioning::{MOST_STREAMS, RunFault, UnreadFile};
+use scim_client::SERVICE_PATH_LIMIT;
 use scim_key::Kind;
 use source_csv::{ReadFault, SourceFault};
 use std::alloc::{AllocError, AllocFailed};
@@ -79,6 +80,8 @@ pub enum CommandFault {
     Subcommand,
     #[error("error: --base is http://HOST/v2")]
     Base,
+    #[error("error: --path is one segment or more, such as /scim/v2, and at most {most} bytes", most = SERVICE_PATH_LIMIT)]
+    Path,
     #[error("error: --listen is HOST:PORT, such as 127.0.0.1:8080")]
     Listen,
     #[error("error: --to is HOST:PORT, such as localhost:8080")]
@@ -97,6 +100,8 @@ pub enum CommandFault {
     Column,
     #[error("error: --separator is comma, semicolon or tab")]
     Separator,
+    #[error("error: --provider-keeps is revisions or versions")]
+    ProviderKeeps,
     #[error("error: show takes one of --store FILE and --journal FILE")]
     Show,
     #[error("error: {0}")]
@@ -151,11 +156,13 @@ impl CommandFault {
     {
         match self {
             CommandFault::Words | CommandFault::Subcommand => Status::Usage,
-            CommandFault::Base | CommandFault::Listen | CommandFault::To => Status::Usage,
+            CommandFault::Base | CommandFault::Path => Status::Usage,
+            CommandFault::Listen | CommandFault::To => Status::Usage,
             CommandFault::Requests | CommandFault::LongestSearch => Status::Usage,
             CommandFault::MostLeavers | CommandFault::GiveUpAfter => Status::Usage,
             CommandFault::Column | CommandFault::Separator => Status::Usage,
             CommandFault::Streams | CommandFault::Show => Status::Usage,
+            CommandFault::ProviderKeeps => Status::Usage,
             CommandFault::Events(_) => Status::Usage,
             CommandFault::Users(SourceFault::Header) => Status::Refused,
             CommandFault::Users(SourceFault::Memory) => Status::Fault,

@@ -3,8 +3,8 @@ ghost use Rattle.std.specs.Prelude.{◌≡◌, codes};
 ghost use Rattle.clap.specs.Matches.{first_value, found_of, one_text};
 ghost use Rattle.scim_key.specs.Outcome.{Gives};
 ghost use Rattle.commands.specs.Addresses.{GivesAddress, text_in};
-ghost use Rattle.commands.specs.Statuses.{base_fault, words_status};
-ghost use Rattle.commands.specs.Words.{GivesCount, GivesLongestSearch, GivesRequests, given_text, wanted, wanted_base};
+ghost use Rattle.commands.specs.Statuses.{base_fault, text_fault, words_status};
+ghost use Rattle.commands.specs.Words.{GivesCount, GivesLongestSearch, GivesRequests, given_text, wanted, wanted_base, wanted_path, wanted_service};
 ghost use Rattle.commands.specs.declared.status.CommandFault.TheVariants.{File, Listen, Memory, To};
 
 use crate::addresses::is_address;
@@ -12,6 +12,7 @@ use crate::status::{CommandFault, Status};
 use clap::ArgMatches;
 use clap::error::ErrorKind;
 use connection::SEARCH_SECONDS;
+use scim_client::{ScimService, ServicePath};
 use scim_key::{Base, NameFault};
 use std::alloc::Global;
 
@@ -32,13 +33,48 @@ pub fn base(alloc: Global, matches: &ArgMatches<'_>) -> Result<Base, CommandFaul
     }
 }
 
+/// The service that records are carried to: at the host of the base in the arguments, with the path that they name.
+pub(crate) fn service(alloc: Global, matches: &ArgMatches<'_>) -> Result<ScimService, CommandFault>
+    ensures { Gives Memory result
+        (wanted_service (first_value (found_of matches.now) (codes "base"))
+        (first_value (found_of matches.now) (codes "path"))) }
+{
+    let base = base(alloc, matches)?;
+    let path = service_path(alloc, matches)?;
+    Ok(ScimService::with_path(base, path))
+}
+
+/// The path in the arguments, if there is one.
+fn service_path(
+    alloc: Global,
+    matches: &ArgMatches<'_>,
+) -> Result<Option<ServicePath>, CommandFault>
+    ensures { Gives Memory result
+        (wanted_path (first_value (found_of matches.now) (codes "path"))) }
+{
+    match matches.get_str("path") {
+        Some(text) => match ServicePath::read(alloc, text) {
+            Ok(path) => Ok(Some(path)),
+            Err(fault) => Err(text_fault(fault, CommandFault::Path)),
+        },
+        None => Ok(None),
+    }
+}
+
 /// The fault of a base that can't be read.
 pub fn base_fault(fault: NameFault) -> CommandFault
     ensures { result ≡ base_fault fault }
 {
+    text_fault(fault, CommandFault::Base)
+}
+
+/// The fault of a text that can't be read: out of memory, or this one.
+fn text_fault(fault: NameFault, wrong: CommandFault) -> CommandFault
+    ensures { result ≡ text_fault fault wrong }
+{
     match fault {
         NameFault::Memory => CommandFault::Memory,
-        _ => CommandFault::Base,
+        _ => wrong,
     }
 }
 

@@ -120,6 +120,13 @@ const TO: OptionText = OptionText {
     help: Help::Text("the provider's address"),
 };
 
+const PATH: OptionText = OptionText {
+    name: "path",
+    value: Value::Text("PATH"),
+    rule: Rule::Optional,
+    help: Help::Text("the path of the provider's service, in place of /v2"),
+};
+
 const QUIET: OptionText = OptionText {
     name: "quiet",
     value: Value::Nothing,
@@ -132,6 +139,13 @@ const STREAMS: OptionText = OptionText {
     value: Value::Count,
     rule: Rule::Without("plan"),
     help: Help::Text("how many records are under way at once, one by default"),
+};
+
+const PROVIDER_KEEPS: OptionText = OptionText {
+    name: "provider-keeps",
+    value: Value::Text("WHAT"),
+    rule: Rule::Optional,
+    help: Help::Text("what the provider keeps of what it is sent: revisions, or versions alone"),
 };
 
 static COMMANDS: &[CommandText] = &[
@@ -158,6 +172,7 @@ static COMMANDS: &[CommandText] = &[
                 ..GROUPS
             },
             BASE,
+            PATH,
             OptionText {
                 help: Help::Text(
                     "prints only accounts that are active and shouldn't be, or the other way round",
@@ -169,6 +184,7 @@ static COMMANDS: &[CommandText] = &[
                 rule: Rule::Optional,
                 ..STREAMS
             },
+            PROVIDER_KEEPS,
         ],
     },
     CommandText {
@@ -197,6 +213,7 @@ static COMMANDS: &[CommandText] = &[
             WANTED_JOURNAL,
             TO,
             BASE,
+            PATH,
             OptionText {
                 name: "snapshot",
                 value: Value::Nothing,
@@ -256,6 +273,10 @@ static COMMANDS: &[CommandText] = &[
                 help: Help::Text(
                     "ends if as many records in a row fail alike, 10 by default, 0 for never",
                 ),
+            },
+            OptionText {
+                rule: Rule::Without("plan"),
+                ..PROVIDER_KEEPS
             },
         ],
     },

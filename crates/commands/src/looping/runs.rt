@@ -2,6 +2,7 @@
 ghost use Rattle.std.specs.Prelude.{◌≡◌, ◌<◌, IfErr, IfOk};
 ghost use Rattle.scim_key.specs.Stores.{CountsFaults};
 ghost use Rattle.provisioning.specs.Carrying.{CarriesSilently};
+ghost use Rattle.provisioning.specs.Services.{keeping_at};
 ghost use Rattle.commands.specs.Loops.{CarriesHere, CountsLook, IsOutcome, IsUnprinted, Loops};
 
 use crate::looping::faults::{LoopFault, unheard, unprinted};
@@ -9,10 +10,12 @@ use crate::looping::own::{OwnProvider, OwnReader, OwnStreams};
 use crate::looping::reports::Reports;
 use crate::looping::views::print_views;
 use connection::{Listen, SEARCH_SECONDS, Sockets, listen_at};
-use connector_core::Connector;
+use connector_core::{Connector, Keeps};
 use journal_core::Journal;
 use provider_core::Provider;
-use provisioning::{CONNECTION_SECONDS, Outcome, Remote, RunFault, Sources, carry};
+use provisioning::{
+    CONNECTION_SECONDS, Outcome, Remote, RunFault, ServiceProvider, Sources, carry,
+};
 use scim_client::ScimService;
 use std::alloc::Global;
 use std::cell::RefCell;
@@ -147,8 +150,8 @@ fn carry_to<
     out: &mut W,
 ) -> Result<Outcome, RunFault>
     ensures { CarriesSilently ⟦<OwnReader<'r, 'p, 'b, N, L, R> as Read>⟧.remaining
-        ⟦<TimedHandle<'r, N::Stream, N> as Write>⟧.contents J.Journal service.now sources.now
-        connector.old connector.new result }
+        ⟦<TimedHandle<'r, N::Stream, N> as Write>⟧.contents J.Journal (keeping_at service.now)
+        sources.now connector.old connector.new result }
 {
     let mut streams = OwnStreams {
         remote: Remote::new(alloc, rt, address),
@@ -159,9 +162,13 @@ fn carry_to<
         stderr: rt,
         rows: 0,
     };
+    let keeping = ServiceProvider {
+        service,
+        keeps: Keeps::Revisions,
+    };
     carry(
         alloc,
-        service,
+        &keeping,
         connector,
         sources,
         &mut streams,
