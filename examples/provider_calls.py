@@ -15,6 +15,8 @@ import urllib.parse
 USER = "urn:ietf:params:scim:schemas:core:2.0:User"
 ENTERPRISE = "urn:ietf:params:scim:schemas:extension:enterprise:2.0:User"
 SOURCE = "urn:example:params:scim:schemas:extension:source:1.0"
+# The host of the base, and the path of the service, unless the arguments name others
+DEFAULT_HOST, DEFAULT_PATH = "localhost:8080", "/v2"
 SCIM_TYPE = "application/scim+json"
 # Seconds that a connection, or a part of an answer, may take
 TIME_LIMIT = 30
@@ -23,6 +25,7 @@ PAUSES, LONGEST_PAUSE = (1, 2, 4, 8, 16), 60
 
 ADDRESS = re.compile(r"(?:\[([0-9A-Fa-f:.]+)\]|([^\s:\[\]]+)):(\d{1,5})")
 BASE = re.compile(r"http://([^\s/]+)/v2")
+PATH = re.compile(r"(?:/(?:[\w.~!$&'()*+,;=:@-]|%[0-9A-Fa-f]{2})+)+", re.ASCII)
 # A version that If-Match can name
 STRONG = re.compile(r'"[\x21\x23-\x7e\x80-\U0010ffff]*"')
 SMALL = str.maketrans(string.ascii_uppercase, string.ascii_lowercase)
@@ -47,13 +50,22 @@ def authority(text):
     return form[1]
 
 
+def service_path(text):
+    """The path of a service, as `push` takes it."""
+    if not PATH.fullmatch(text):
+        raise argparse.ArgumentTypeError(f"{text!r} isn't like /scim/v2")
+    return text
+
+
 def arguments(description):
     """A parser of the arguments that both tools have."""
     how = argparse.RawDescriptionHelpFormatter
     parser = argparse.ArgumentParser(description=description, formatter_class=how, allow_abbrev=False)
     parser.add_argument("--to", type=address, required=True, metavar="HOST:PORT", help="the address of the provider")
-    base = {"type": authority, "default": "http://localhost:8080/v2", "metavar": "URL"}
+    base = {"type": authority, "default": f"http://{DEFAULT_HOST}/v2", "metavar": "URL"}
     parser.add_argument("--base", **base, help="the base of the service; without it %(default)s")
+    path = {"type": service_path, "default": DEFAULT_PATH, "metavar": "PATH"}
+    parser.add_argument("--path", **path, help="the path of the provider's service; without it %(default)s")
     return parser
 
 
@@ -135,7 +147,7 @@ class Provider:
     """A provider at an address. Each request has a connection of its own, and may raise OSError."""
 
     def __init__(self, options):
-        self.address, self.authority = options.to, options.base
+        self.address, self.authority, self.path = options.to, options.base, options.path
 
     def ask(self, method, path, content=None, version=None):
         """The answer to a request with this body, under this version. It is sent again if the provider was busy."""
@@ -155,7 +167,7 @@ class Provider:
         if version is not None:
             fields["If-Match"] = version
         with contextlib.closing(http.client.HTTPConnection(*self.address, timeout=TIME_LIMIT)) as connection:
-            connection.putrequest(method, f"/v2/{path}", skip_host=True, skip_accept_encoding=True)
+            connection.putrequest(method, f"{self.path}/{path}", skip_host=True, skip_accept_encoding=True)
             for name, value in fields.items():
                 connection.putheader(name, value.encode())
             try:

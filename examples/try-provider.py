@@ -2,23 +2,28 @@
 """Tries whether a SCIM provider meets the conditions of `scimlink push`.
 
 It creates a user with a name that nobody has, replaces that user some times, and leaves the user inactive. It changes
-no other account. It prints a line for each condition: `met`, `not met` or `can't be tried`, and what that means.
+no other account. It prints a line for each condition: `met`, `not met` or `can't be tried`, and what that means. Then
+it prints how to push to this provider. Either the source extension must be kept, or each replacement must have a version
+of its own; all other conditions must be met.
 
-Status: 0 if all are met, 1 if one isn't, 2 if the arguments are invalid, 3 if the provider can't be reached.
+Status: 0 if they are, 1 if not, 2 if the arguments are invalid, 3 if the provider can't be reached.
 """
 import secrets
+import shlex
 import sys
 import urllib.parse
 
 from provider_calls import (
-    ENTERPRISE, SOURCE, USER, Provider, arguments, attribute, found_in, is_strong, name_of, printed, revision_of,
-    version_of,
+    DEFAULT_HOST, DEFAULT_PATH, ENTERPRISE, SOURCE, USER, Provider, arguments, attribute, found_in, is_strong, name_of,
+    printed, revision_of, version_of,
 )
 
 MET, NOT_MET, UNTRIED = "met", "not met", "can't be tried"
 NO_USER = UNTRIED, "There is no user to try it with"
 UNNOTICED = "push can't notice it: a late message can switch a leaver on"
 DEPARTMENT = "Trials"
+# The families that the user gets at the end, by which it is seen whether a version comes back
+FAMILIES = ("Try", "Try", "Trial", "Try")
 # A version that no user has
 NO_VERSION = '"scimlink-try"'
 # The revisions that the user gets, and then one with an epoch
@@ -43,6 +48,7 @@ class Trial:
         self.twice = self.replaced = self.late = self.after = self.in_epoch = None
         self.answers = []  # all of them
         self.shown = []  # each user of ours that they showed, and the revision that it should have
+        self.versions = []  # that the user had after the last replacements
         self.users = {}  # by its id, each user of ours as it was shown last
         self.may_exist = False  # whether a creation was sent
 
@@ -69,10 +75,15 @@ class Trial:
             self.in_epoch = self.replace(id, IN_EPOCH, False, self.version())
             if is_success(self.in_epoch):
                 self.note(self.provider.read(id), IN_EPOCH)
+        for family in FAMILIES:
+            content = self.content(SECOND, False, family=family)
+            replaced = self.note(self.provider.replace(id, content, self.version()))
+            self.note(self.provider.read(id))
+            self.versions.append(self.version() if is_success(replaced) else None)
 
     # ---- requests
 
-    def content(self, revision, active, name=None):
+    def content(self, revision, active, name=None, family="Try"):
         """A user as `push` sends it."""
         epoch, number = revision
         source = {"epoch": epoch, "revision": number} if epoch else {"revision": number}
@@ -81,7 +92,7 @@ class Trial:
             "active": active,
             "emails": [{"primary": True, "type": "work", "value": f"{self.name}@example.com"}],
             "externalId": self.name,
-            "name": {"familyName": "Try", "givenName": "Scimlink"},
+            "name": {"familyName": family, "givenName": "Scimlink"},
             "schemas": [USER, *self.extensions],
             "userName": name or self.name,
         } | {it: extensions[it] for it in self.extensions}
@@ -279,6 +290,18 @@ def version(trial):
     return MET, "push can name the version that it replaces"
 
 
+def new_versions(trial):
+    if not trial.users:
+        return NO_USER
+    if not trial.versions or None in trial.versions:
+        return UNTRIED, "The user wasn't replaced and shown with a version each time"
+    if trial.versions[0] == trial.versions[1]:
+        return NOT_MET, f"A replacement that changes nothing keeps the version. With versions alone, {UNNOTICED}"
+    if len(set(trial.versions)) < len(trial.versions):
+        return NOT_MET, f"A version comes back with its content. With versions alone, {UNNOTICED}"
+    return MET, "Each replacement has a version of its own"
+
+
 def content_length(trial):
     for answer in trial.answers:
         if not answer.status:
@@ -316,6 +339,7 @@ CONDITIONS = {
     "enterprise extension": enterprise_extension,
     "If-Match": if_match,
     "strong version": version,
+    "new versions": new_versions,
     "Content-Length": content_length,
     "201 and 200": created_and_replaced,
 }
@@ -324,11 +348,27 @@ CONDITIONS = {
 # ---- the run
 
 
+def push_line(provider, unmet):
+    """How to push to this provider, which doesn't meet these conditions; None if it isn't safe."""
+    host, port = provider.address
+    words = ["scimlink push --users FILE --journal FILE --to", f"{f'[{host}]' if ':' in host else host}:{port}"]
+    if provider.authority != DEFAULT_HOST:
+        words.append(f"--base http://{provider.authority}/v2")
+    if provider.path != DEFAULT_PATH:
+        words.append(f"--path {shlex.quote(provider.path)}")
+    if unmet <= {"new versions"}:
+        return " ".join(words)
+    return " ".join([*words, "--provider-keeps versions"]) if unmet <= {"source extension"} else None
+
+
 def report(trial, is_left_off):
     """Prints the lines: the status."""
     verdicts = {name: condition(trial) for name, condition in CONDITIONS.items()}
     for name, (verdict, meaning) in verdicts.items():
         print(f"{verdict}: {name}. {meaning}")
+    unmet = {name for name, (verdict, _) in verdicts.items() if verdict != MET}
+    line = push_line(trial.provider, unmet)
+    print(f"push by: {line}" if line else "don't rely on push with this provider")
     if not trial.users:
         is_made = is_success(trial.created)
         print(f"the user {trial.name} isn't shown: switch it off by hand" if is_made else "no user was created")
@@ -336,7 +376,7 @@ def report(trial, is_left_off):
         print(f"the user {trial.name} is left inactive")
     else:
         print(f"the user {trial.name} isn't shown as inactive: switch it off by hand. Leavers may keep their accounts")
-    return 0 if is_left_off and all(verdict == MET for verdict, _ in verdicts.values()) else 1
+    return 0 if is_left_off and line else 1
 
 
 def main():
