@@ -41,6 +41,8 @@ HEADS = [
     (NO_HOST, b"GET /v2/Users HTTP/1.1\r\n\r\n"),
     (NO_HOST, b"POST /v2/Users HTTP/1.1\r\nContent-Length: 32769\r\n\r\n"),
     (NO_HOST, b"GET /v2/Users HTTP/1.0\r\nHost: h\r\nhost: h\r\n\r\n"),
+    (NO_HOST, b"GET /v2/Users HTTP/1.1\r\nHost: a b\r\n\r\n"),
+    (NO_HOST, b"GET /v2/Users HTTP/1.0\r\nHost: a/v2\r\n\r\n"),
     (NO_LENGTH, POST + b"\r\n"),
     (NO_LENGTH, b"PUT /v2/Users HTTP/1.1\r\nHost: h\r\n\r\n"),
     (LONG_BODY, POST + b"Content-Length: 32769\r\n\r\n"),
@@ -51,6 +53,12 @@ HEADS = [
     (LONG_HEAD, POST + b"A: " + b"a" * 20_000 + b"\r\n\r\n"),
     (LONG_HEAD, b"GET /v2/Users HTTP/1.1\r\nHost: h\r\n" + b"X: y\r\n" * 64 + b"\r\n"),
 ]
+
+# Bytes that a host and its port have: those of RFC 3986's `unreserved`, `sub-delims` and `pct-encoded`, and `:[]`
+LETTERS = "abcdefghijklmnopqrstuvwxyz"
+HOST_BYTES = LETTERS + LETTERS.upper() + "0123456789" + "-._~" + "!$&'()*+,;=" + "%" + ":[]"
+# Other hosts that are answered
+HOSTS = ["", "localhost:8080", "[2001:db8::1]:80", "10.0.0.1", "a%20b", "a_b~c!$&'()*+,;=d.example:"]
 
 BODIES = [
     (VALUE, create_user({"schemas": [], "userName": "x"})),
@@ -87,3 +95,28 @@ class RefusalTest(ExchangeTest):
         )
         paths = (USERS, f"{GROUPS}?count=1")
         self.assert_refusals([(expected, f"HEAD {path} HTTP/1.1\r\nHost: h\r\n\r\n".encode()) for path in paths])
+
+    def test_a_refused_head_of_a_head_request_gets_the_head_alone(self):
+        """Whatever refuses it, and with empty lines before it. What isn't HEAD, or not yet, is answered with a body."""
+        start = b"HEAD /v2/Users HTTP/1.1\r\nHost: h\r\n"
+        refused = [
+            (MALFORMED, b"HEAD /\0"),
+            (MALFORMED, start + b"Host h\r\n\r\n"),
+            (MALFORMED, start + b"Content-Length: x\r\n\r\n"),
+            (LONG_HEAD, start + b"A: " + b"a" * 20_000 + b"\r\n\r\n"),
+            (LONG_HEAD, start + b"X: y\r\n" * 64 + b"\r\n"),
+            (NO_HOST, start + b"Host: h\r\n\r\n"),
+        ]
+        refused += [(answer, b"\r\n\n" + asked) for answer, asked in refused]
+        with_body = [b"HEAD\0", b"HEA\0", b"HEADS /\0", b"head /\0", b"GET /HEAD \0"]
+        self.assert_refusals([(answer[:answer.index(b"\r\n\r\n") + 4], asked) for answer, asked in refused]
+                             + [(MALFORMED, asked) for asked in with_body])
+
+    def test_each_byte_of_a_host(self):
+        """Those of a host and its port are answered, all other visible ones refused."""
+        visible = [chr(byte) for byte in range(0x21, 0x7f)]
+        hosts = HOSTS + ["a" + byte + "b" for byte in HOST_BYTES]
+        others = ["a b", "a\tb", "a\u00e4b"] + ["a" + byte + "b" for byte in visible if byte not in HOST_BYTES]
+        self.assertEqual(len(hosts) - len(HOSTS) + len(others) - 3, len(visible))
+        self.assert_refusals([(answer, f"GET /v2/Things HTTP/1.1\r\nHost: {host}\r\n\r\n".encode("latin-1"))
+                              for answer, texts in ((NO_PATH, hosts), (NO_HOST, others)) for host in texts])

@@ -34,7 +34,7 @@ wanted_within true h (Some n) = limit_within (nat_lt body_limit n) h n refl
 wanted_within false h (Some n) = limit_within (nat_lt body_limit n) h n refl
 
 abbrev judged : Length → Bool → Bool → Bool → Bool → Bool → ReadFault → ReadFault → ReadFault → Result ℕ ReadFault
-judged l a b c w h f g e = readable_length l >>= (λ length. refused_where a f >>= (λ _. refused_where b g >>= (λ _. refused_where c e >>= (λ _. length_wanted w h length))))
+judged l a b c w h f g e = readable_length h l >>= (λ length. refused_where a f >>= (λ _. refused_where b g >>= (λ _. refused_where c e >>= (λ _. length_wanted w h length))))
 
 within : (l : Length) (a b c w h : Bool) (f g e : ReadFault) → IfOk (judged l a b c w h f g e) (λ n. n ≤ body_limit)
 within absent true b c w h f g e = tt
@@ -68,9 +68,9 @@ filled part more n short room =
     omega (arith, taken, both, short)
 
 -- what is malformed with the longest body behind it has no whole head
-pub no_body : (bytes more : List ℕ) (old left : Option (List ℕ)) (fault : ReadFault) → old ≡ Some (bytes ++ more) → body_limit ≤ length more
-    → fault ≡ Malformed → FindsMessage request_form old left (Err fault) → ¬ (IsPartOfBody request_form bytes)
-no_body bytes more old left fault is room malformed found part =
+pub no_body : (bytes more : List ℕ) (old left : Option (List ℕ)) (fault : ReadFault) (is_head : Bool) → old ≡ Some (bytes ++ more) → body_limit ≤ length more
+    → fault ≡ Malformed is_head → FindsMessage request_form old left (Err fault) → ¬ (IsPartOfBody request_form bytes)
+no_body bytes more old left fault is_head is room malformed found part =
     let finds = subst (λ (f : ReadFault). FindsMessage request_form old left (Err f)) malformed found in
     let within : part.stated ≤ body_limit = stated_within part.head part.stated part.accepted in
     let count = part.stated - length part.part in

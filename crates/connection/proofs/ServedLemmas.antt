@@ -1,5 +1,5 @@
 -- From what was read, and what followed from it, to what was at the reader's front.
-use Rattle.std.proofs.Common.{◌≡◌, ℕ, ◌⊎◌, inl, inr, List, ◌++◌, Option, Some, Result, Ok, Err, refl, subst, take}
+use Rattle.std.proofs.Common.{◌≡◌, ℕ, ◌⊎◌, ⊎_elim, inl, inr, Bool, List, ◌++◌, Option, Some, Result, Ok, Err, refl, subst, take}
 use Rattle.httparse.specs.Grammar.{EndsInTarget}
 use Rattle.httparse.specs.Spans.{RequestExceeds}
 use Rattle.scim_resource.specs.Rows.{StoredRecord}
@@ -11,7 +11,7 @@ use Rattle.http_text.specs.declared.fault.ReadFault.TheVariants.{Malformed, Host
 use Rattle.http_text.specs.Counts.{Reading, Writing}
 use Rattle.http_text.specs.Message.{Message, head_limit, field_limit}
 use Rattle.http_text.specs.Forms.{IsRequestMessage, IsAccepted}
-use Rattle.http_text.specs.Heads.{IsStreamFault, Answers}
+use Rattle.http_text.specs.Heads.{IsStreamFault, Answers, AnswersLong}
 use Rattle.http_text.specs.Judging.{is_head}
 use Rattle.http_text.specs.Requests.{FindsMessage, AnswersMalformed}
 use Rattle.scim_http.specs.Meaning.{Asks}
@@ -24,11 +24,11 @@ use Rattle.connection.specs.Known.{IsHindered, MeetsFault, ServesKnown}
 module _ (faithful : Type 0) (base : List ℕ) (old new : List StoredRecord) (before after : Writing) (served : Served) where
   hindered : (fault : ReadFault) → IsStreamFault fault → Serves faithful base old new before after (Err fault) served
       → IsHindered faithful old new before after served
-  hindered Malformed h s = absurd h
+  hindered (Malformed is_head) h s = absurd h
   hindered (HostMissingOrRepeated is_head) h s = absurd h
   hindered (LengthMissing is_head) h s = absurd h
   hindered (BodyTooLong is_head) h s = absurd h
-  hindered HeadTooLong h s = absurd h
+  hindered (HeadTooLong is_head) h s = absurd h
   hindered (TransferCoding is_head) h s = absurd h
   hindered (Expectation is_head) h s = absurd h
   hindered EndedEarly h s = absurd h
@@ -47,6 +47,11 @@ module _ (faithful : Type 0) (base : List ℕ) (old new : List StoredRecord) (be
       → MeetsFault base old new before after served fault ⊎ IsHindered faithful old new before after served
   meets_fault fault (Ok m) h s = absurd h
   meets_fault fault (Err answered) h s = meets fault answered h s
+
+  -- if the head is too long, whether or not its method is HEAD
+  meets_long : (r : Result Message ReadFault) → AnswersLong r → Serves faithful base old new before after r served
+      → ((is_head : Bool) × MeetsFault base old new before after served (HeadTooLong is_head)) ⊎ IsHindered faithful old new before after served
+  meets_long r h s = ⊎_elim (λ met. inl (h.0, met)) (λ none. inr none) (meets_fault (HeadTooLong h.0) r h.1 s)
 
   answered : (m : Message) (asked : Result Request Refusal) (reply : ReplyRecord) → Asks m asked
       → AnswersMessage faithful base old new m reply ⊎ GivesUp faithful old new reply
@@ -75,16 +80,16 @@ module _ (faithful : Type 0) (base : List ℕ) (old new : List StoredRecord) (be
 
   -- what may come of a malformed head
   malformed : (all : List ℕ) (r : Result Message ReadFault) → AnswersMalformed all r → Serves faithful base old new before after r served
-      → MeetsFault base old new before after served Malformed
-      ⊎ ((EndsInTarget (take head_limit all) ⊎ RequestExceeds field_limit all) × MeetsFault base old new before after served HeadTooLong)
+      → ((is_head : Bool) × MeetsFault base old new before after served (Malformed is_head))
+      ⊎ ((EndsInTarget (take head_limit all) ⊎ RequestExceeds field_limit all) × ((is_head : Bool) × MeetsFault base old new before after served (HeadTooLong is_head)))
       ⊎ (EndsInTarget all × MeetsFault base old new before after served EndedEarly)
       ⊎ IsHindered faithful old new before after served
   malformed all (Ok m) h s = absurd h
-  malformed all (Err Malformed) h s = inl s
+  malformed all (Err (Malformed is_head)) h s = inl (is_head, s)
   malformed all (Err (HostMissingOrRepeated is_head)) h s = absurd h
   malformed all (Err (LengthMissing is_head)) h s = absurd h
   malformed all (Err (BodyTooLong is_head)) h s = absurd h
-  malformed all (Err HeadTooLong) h s = inr (inl (h, s))
+  malformed all (Err (HeadTooLong is_head)) h s = inr (inl (h, (is_head, s)))
   malformed all (Err (TransferCoding is_head)) h s = absurd h
   malformed all (Err (Expectation is_head)) h s = absurd h
   malformed all (Err EndedEarly) h s = inr (inr (inl (h, s)))
@@ -99,7 +104,7 @@ module _ (faithful : Type 0) (base : List ℕ) (old new : List StoredRecord) (be
   serves_known reading_old reading_new r read s = record {
     message = message reading_old.remaining reading_new.remaining r read.found s;
     refused_head = λ front rest head fault at is judged. meets_fault fault r (read.refused_head front rest head fault at is judged) s;
-    long = λ bytes rest at long. meets_fault HeadTooLong r (read.long bytes rest at long) s;
+    long = λ bytes rest at long. meets_long r (read.long bytes rest at long) s;
     part = λ bytes at part. meets_fault EndedEarly r (read.ended bytes at part) s;
     malformed = λ bytes rest at within never. malformed (bytes ++ rest) r (read.malformed bytes rest at within never) s;
   }

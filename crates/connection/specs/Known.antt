@@ -1,5 +1,5 @@
 -- What a connection does if the reader's bytes are known: from the bytes at the front to what is written.
-use Rattle.std.specs.Prelude.{◌≡◌, ℕ, ◌≤◌, ◌⊎◌, List, ◌++◌, Option, Some, Result, Err, length, take}
+use Rattle.std.specs.Prelude.{◌≡◌, ℕ, ◌≤◌, ◌⊎◌, Bool, List, ◌++◌, Option, Some, Result, Err, length, take}
 use Rattle.httparse.specs.Grammar.{NeverHasRequest, EndsInTarget}
 use Rattle.httparse.specs.Spans.{RequestExceeds}
 use Rattle.scim_resource.specs.Rows.{StoredRecord}
@@ -48,7 +48,8 @@ pub record ServesKnown (faithful : Type 0) (base : List ℕ) (old new : List Sto
       → MeetsFault base old new before after served fault ⊎ IsHindered faithful old new before after served
   -- a head beyond a limit is refused
   pub long : (bytes rest : List ℕ) → remaining ≡ Some (bytes ++ rest) → IsLongPart bytes ⊎ HasLongSection bytes
-      → MeetsFault base old new before after served HeadTooLong ⊎ IsHindered faithful old new before after served
+      → ((is_head : Bool) × MeetsFault base old new before after served (HeadTooLong is_head))
+      ⊎ IsHindered faithful old new before after served
   -- only a part of a request isn't a request
   pub part : (bytes : List ℕ) → remaining ≡ Some bytes → IsPartOfHead bytes ⊎ IsPartOfBody bytes
       → MeetsFault base old new before after served EndedEarly ⊎ IsHindered faithful old new before after served
@@ -56,8 +57,8 @@ pub record ServesKnown (faithful : Type 0) (base : List ℕ) (old new : List Sto
   -- field lines beyond the limit not at all
   pub malformed : (bytes rest : List ℕ) → remaining ≡ Some (bytes ++ rest) → length bytes ≤ head_limit
       → NeverHasRequest bytes
-      → MeetsFault base old new before after served Malformed
+      → ((is_head : Bool) × MeetsFault base old new before after served (Malformed is_head))
       ⊎ ((EndsInTarget (take head_limit (bytes ++ rest)) ⊎ RequestExceeds field_limit (bytes ++ rest))
-      × MeetsFault base old new before after served HeadTooLong)
+      × ((is_head : Bool) × MeetsFault base old new before after served (HeadTooLong is_head)))
       ⊎ (EndsInTarget (bytes ++ rest) × MeetsFault base old new before after served EndedEarly)
       ⊎ IsHindered faithful old new before after served

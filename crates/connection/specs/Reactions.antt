@@ -1,5 +1,4 @@
 -- What a connection does after a fault of reading.
-use Rattle.std.specs.Prelude.{false}
 use Rattle.scim_message.specs.declared.refusals.Refusal.TheVariants as refusals
 use Rattle.http_text.specs.declared.fault.ReadFault.{ReadFault}
 use Rattle.http_text.specs.declared.fault.ReadFault.TheVariants as faults
@@ -8,11 +7,11 @@ use Rattle.connection.specs.declared.reactions.Reaction.TheVariants.{Refuse, Giv
 
 -- a refusal, without a body for HEAD; the fixed text; or nothing
 abbrev pub reaction_to : ReadFault → Reaction
-reaction_to faults.Malformed = Refuse refusals.Malformed false
+reaction_to (faults.Malformed is_head) = Refuse refusals.Malformed is_head
 reaction_to (faults.HostMissingOrRepeated is_head) = Refuse refusals.Host is_head
 reaction_to (faults.LengthMissing is_head) = Refuse refusals.LengthMissing is_head
 reaction_to (faults.BodyTooLong is_head) = Refuse refusals.BodyTooLong is_head
-reaction_to faults.HeadTooLong = Refuse refusals.HeadTooLong false
+reaction_to (faults.HeadTooLong is_head) = Refuse refusals.HeadTooLong is_head
 reaction_to (faults.TransferCoding is_head) = Refuse refusals.TransferCoding is_head
 reaction_to (faults.Expectation is_head) = Refuse refusals.Expectation is_head
 reaction_to faults.EndedEarly = StaySilent

@@ -19,16 +19,16 @@ pub(crate) enum Reaction {
     StaySilent,
 }
 
-/// The answers to a malformed head and to a head that is too long always have a body.
+/// What to do after a fault of reading.
 pub(crate) fn reaction_to(fault: ReadFault) -> Reaction
     ensures { result ≡ spec.reaction_to fault }
 {
     let (refusal, leaves_body_out) = match fault {
-        ReadFault::Malformed => (Refusal::Malformed, false),
+        ReadFault::Malformed { is_head } => (Refusal::Malformed, is_head),
         ReadFault::HostMissingOrRepeated { is_head } => (Refusal::Host, is_head),
         ReadFault::LengthMissing { is_head } => (Refusal::LengthMissing, is_head),
         ReadFault::BodyTooLong { is_head } => (Refusal::BodyTooLong, is_head),
-        ReadFault::HeadTooLong => (Refusal::HeadTooLong, false),
+        ReadFault::HeadTooLong { is_head } => (Refusal::HeadTooLong, is_head),
         ReadFault::TransferCoding { is_head } => (Refusal::TransferCoding, is_head),
         ReadFault::Expectation { is_head } => (Refusal::Expectation, is_head),
         ReadFault::OutOfMemory => return Reaction::GiveUp,

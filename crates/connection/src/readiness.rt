@@ -49,7 +49,7 @@ pub(crate) fn extent_of(alloc: Global, bytes: &[u8]) -> Extent
                 Extent::Unknown
             }
         }
-        Err(ReadFault::Malformed) => Extent::PartOfHead,
+        Err(ReadFault::Malformed { .. }) => Extent::PartOfHead,
         Err(_) => Extent::Unknown,
     }
 }

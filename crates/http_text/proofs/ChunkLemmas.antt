@@ -226,7 +226,8 @@ module _ (bytes content : List ℕ) (room : ℕ) (chunks : AreChunksRead bytes c
       omega (arith, ap length body, long, length-append bytes tail, chunks.framing)
 
   pub refused_over : (tail : List ℕ) (left : Option (List ℕ)) (fault : ReadFault) → RefusesTrailers room tail left fault → RefusesBody (bytes ++ tail) left fault
-  refused_over tail left Malformed h = record {
+  refused_over tail left (Malformed true) h = absurd h
+  refused_over tail left (Malformed false) h = record {
     never = λ more c rest r. h.0 more rest (trailers_on (tail ++ more) c rest (subst (λ u. ReadsChunked u c rest) (append_assoc bytes tail more) r)).1;
     before = before_over tail h.1;
   }
@@ -238,7 +239,7 @@ module _ (bytes content : List ℕ) (room : ℕ) (chunks : AreChunksRead bytes c
     before = before_over tail h.1;
     exceeds = inr (exceeds_over tail h.0);
   }
-  refused_over tail left HeadTooLong h = absurd h
+  refused_over tail left (HeadTooLong is_head) h = absurd h
   refused_over tail left (TransferCoding is_head) h = absurd h
   refused_over tail left (Expectation is_head) h = absurd h
   refused_over tail left EndedEarly h = (part_over tail h.0, h.1)
@@ -287,12 +288,13 @@ body_is_read s bytes left body rest content fault split whole is refused = by_fa
     at bytes e = subst (λ t. ReadsWithin t content rest) (sym whole ∙ e) (chunked_before body content rest is)
 
     by_fault : (fault : ReadFault) → RefusesBody bytes (Some left) fault → IsStreamFault fault
-    by_fault Malformed h = h.never left content rest (at (bytes ++ left) split).reads
+    by_fault (Malformed true) h = h
+    by_fault (Malformed false) h = h.never left content rest (at (bytes ++ left) split).reads
     by_fault (HostMissingOrRepeated is_head) h = h
     by_fault (LengthMissing is_head) h = h
     by_fault (BodyTooLong true) h = h
     by_fault (BodyTooLong false) h = h.never left content rest (at (bytes ++ left) split)
-    by_fault HeadTooLong h = h
+    by_fault (HeadTooLong is_head) h = h
     by_fault (TransferCoding is_head) h = h
     by_fault (Expectation is_head) h = h
     by_fault EndedEarly h = h.0.none content rest (at bytes (split ∙ ap (λ t. bytes ++ t) h.1 ∙ append-nil bytes)).reads
@@ -308,12 +310,13 @@ body_is_cut s bytes left fault split part refused = by_fault fault refused
     at = subst (λ t. ReadsWithin t part.content []) (ap (λ t. t ++ part.more) split ∙ append_assoc bytes left part.more) part.whole
 
     by_fault : (fault : ReadFault) → RefusesBody bytes (Some left) fault → (fault ≡ EndedEarly) ⊎ IsStreamFault fault
-    by_fault Malformed h = absurd (h.never (left ++ part.more) part.content [] at.reads)
+    by_fault (Malformed true) h = absurd h
+    by_fault (Malformed false) h = absurd (h.never (left ++ part.more) part.content [] at.reads)
     by_fault (HostMissingOrRepeated is_head) h = absurd h
     by_fault (LengthMissing is_head) h = absurd h
     by_fault (BodyTooLong true) h = absurd h
     by_fault (BodyTooLong false) h = absurd (h.never (left ++ part.more) part.content [] at)
-    by_fault HeadTooLong h = absurd h
+    by_fault (HeadTooLong is_head) h = absurd h
     by_fault (TransferCoding is_head) h = absurd h
     by_fault (Expectation is_head) h = absurd h
     by_fault EndedEarly h = inl refl
@@ -323,13 +326,14 @@ body_is_cut s bytes left fault split part refused = by_fault fault refused
 
 -- if no bytes complete it, it is refused
 pub body_is_refused : (s bytes left never rest : List ℕ) (fault : ReadFault) → s ≡ bytes ++ left → s ≡ never ++ rest → NeverEnds never → RefusesBody bytes (Some left) fault
-    → (fault ≡ Malformed) ⊎ ((fault ≡ BodyTooLong false) ⊎ IsStreamFault fault)
-body_is_refused s bytes left never rest Malformed split whole bad h = inl refl
+    → (fault ≡ Malformed false) ⊎ ((fault ≡ BodyTooLong false) ⊎ IsStreamFault fault)
+body_is_refused s bytes left never rest (Malformed true) split whole bad h = absurd h
+body_is_refused s bytes left never rest (Malformed false) split whole bad h = inl refl
 body_is_refused s bytes left never rest (HostMissingOrRepeated is_head) split whole bad h = absurd h
 body_is_refused s bytes left never rest (LengthMissing is_head) split whole bad h = absurd h
 body_is_refused s bytes left never rest (BodyTooLong true) split whole bad h = absurd h
 body_is_refused s bytes left never rest (BodyTooLong false) split whole bad h = inr (inl refl)
-body_is_refused s bytes left never rest HeadTooLong split whole bad h = absurd h
+body_is_refused s bytes left never rest (HeadTooLong is_head) split whole bad h = absurd h
 body_is_refused s bytes left never rest (TransferCoding is_head) split whole bad h = absurd h
 body_is_refused s bytes left never rest (Expectation is_head) split whole bad h = absurd h
 body_is_refused s bytes left never rest EndedEarly split whole bad h =

@@ -1,5 +1,5 @@
 -- How far the chunks of a body were read, and what the next bytes that were read ahead give.
-use Rattle.std.proofs.Common.{◌≡◌, ℕ, ◌+◌, ◌-◌, ◌<◌, ◌≤◌, ◌⊎◌, List, [], ◌∷◌, ◌++◌, zero, suc, length, take, drop, refl, ap, sym, ◌∙◌, inl, inr, arith, append_assoc, length-append, length-drop, Option, Result, Ok, Err}
+use Rattle.std.proofs.Common.{◌≡◌, ℕ, false, ◌+◌, ◌-◌, ◌<◌, ◌≤◌, ◌⊎◌, List, [], ◌∷◌, ◌++◌, zero, suc, length, take, drop, refl, ap, sym, ◌∙◌, inl, inr, arith, append_assoc, length-append, length-drop, Option, Result, Ok, Err}
 use Rattle.std.specs.Prelude.{slice_range, IfErr, OnOk}
 use Rattle.std.specs.Io.KnownBytes.{Consumes, Keeps}
 use Rattle.std.proofs.lemmas.List.{take-take, length-take-le}
@@ -35,11 +35,11 @@ pub record HasChunks (old now : Reading) (before after : Message) (decoder : Chu
 
 -- no more bytes came
 pub cut_none : (old now new : Option (List ℕ)) (bytes : List ℕ) (fault : ReadFault) → Consumes old now bytes → IsPartOfChunks bytes → GivesNone now new fault → CutsChunked old new fault
-cut_none old now new bytes Malformed taken part none = absurd none
+cut_none old now new bytes (Malformed is_head) taken part none = absurd none
 cut_none old now new bytes (HostMissingOrRepeated is_head) taken part none = absurd none
 cut_none old now new bytes (LengthMissing is_head) taken part none = absurd none
 cut_none old now new bytes (BodyTooLong is_head) taken part none = absurd none
-cut_none old now new bytes HeadTooLong taken part none = absurd none
+cut_none old now new bytes (HeadTooLong is_head) taken part none = absurd none
 cut_none old now new bytes (TransferCoding is_head) taken part none = absurd none
 cut_none old now new bytes (Expectation is_head) taken part none = absurd none
 cut_none old now new bytes EndedEarly taken part none = (bytes, Consumes-kept old now new bytes taken none.0, (part, none.1))
@@ -129,7 +129,7 @@ module _ (old now kept : Option (List ℕ)) (bytes content ahead input : List �
 pub refused_byte : (old now kept new : Option (List ℕ)) (bytes content ahead input : List ℕ) (count : ℕ) (decoder next : ChunkedDecoder) (e : ChunkError)
     → Consumes old now bytes → Keeps now kept → input ≡ take count ahead → count ≡ 1 → 0 < length ahead → Consumes kept new (take 1 ahead)
     → run (start framing_limit) bytes ≡ run_result decoder content [] → HasNotFailed decoder → (IsDone decoder → ⊥) → FailsAt decoder input next e
-    → CutsChunked old new Malformed
+    → CutsChunked old new (Malformed false)
 refused_byte old now kept new bytes content [] input count decoder next e taken keeps is one some took ran good going fails = absurd (omega (arith, some))
 refused_byte old now kept new bytes content (b ∷ ahead) input count decoder next e taken keeps is one some took ran good going fails =
     let byte : input ≡ b ∷ [] = is ∙ ap (λ n. take n (b ∷ ahead)) one in

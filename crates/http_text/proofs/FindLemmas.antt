@@ -1,5 +1,5 @@
 -- What is at a reader's front is found: each clause about it follows from what was taken.
-use Rattle.std.proofs.Common.{◌≡◌, ℕ, ◌+◌, ◌<◌, ◌≤◌, List, [], ◌++◌, length, take, refl, ap, sym, ◌∙◌, subst, arith, append_assoc, length-append, Option, Some, None, Result, Ok, Err, inl, inr}
+use Rattle.std.proofs.Common.{◌≡◌, ℕ, Bool, false, ◌+◌, ◌<◌, ◌≤◌, List, [], ◌++◌, length, take, refl, ap, sym, ◌∙◌, subst, arith, append_assoc, length-append, Option, Some, None, Result, Ok, Err, inl, inr}
 use Rattle.std.specs.Prelude.{IfOk, IfErr, ◌⊎◌}
 use Rattle.std.specs.Io.KnownBytes.{Consumes}
 use Rattle.std.proofs.lemmas.List.{append-nil, take_at}
@@ -7,7 +7,7 @@ use Rattle.http_text.specs.declared.fault.ReadFault.{ReadFault}
 use Rattle.http_text.specs.declared.fault.ReadFault.TheVariants.{Malformed, HostMissingOrRepeated, LengthMissing, BodyTooLong, HeadTooLong, TransferCoding, Expectation, EndedEarly, ReadFailed, OutOfMemory, TurnsExhausted}
 use Rattle.http_text.specs.Message.{Message, Head, head_limit, field_limit}
 use Rattle.http_text.specs.Forms.{Form, IsHead, IsMessage, IsAcceptable}
-use Rattle.http_text.specs.Heads.{HasNone, NeverHas, MayBecome, Exceeds, IsUndecided, IsHeadAtLimit, HasTooManyFields, IsRefusedHead, IsPartOfBody, IsUnfinished, Refuses, TakesMessage, TakesRefused, IsStreamFault, Finds, Answers, AnswersMalformed, FindsMessage, FindsRefusedHead, IsPartOfHead, FindsEnd, IsLongPart, FindsLong, FindsMalformed}
+use Rattle.http_text.specs.Heads.{AnswersLong, HasNone, NeverHas, MayBecome, Exceeds, IsUndecided, IsHeadAtLimit, HasTooManyFields, IsRefusedHead, IsPartOfBody, IsUnfinished, Refuses, TakesMessage, TakesRefused, IsStreamFault, Finds, Answers, AnswersMalformed, FindsMessage, FindsRefusedHead, IsPartOfHead, FindsEnd, IsLongPart, FindsLong, FindsMalformed}
 use Rattle.http_text.proofs.FormLaws.{Laws}
 use Rattle.http_text.proofs.ListLemmas.{front_of}
 use Rattle.http_text.proofs.MessageLemmas.{reads_before, heads_same, messages_same}
@@ -18,9 +18,9 @@ module _ (F : Form) (laws : Laws F) where
   pub data Cause (s : List ℕ) (fault : ReadFault) : Type 0 where
     by_stream : IsStreamFault fault → Cause s fault
     by_head : (front after : List ℕ) (head : Head) → s ≡ front ++ after → IsHead F front head → F.judge head ≡ Err fault → Cause s fault
-    by_bytes : (bytes left : List ℕ) → fault ≡ Malformed → s ≡ bytes ++ left → NeverHas F bytes → length bytes ≤ head_limit → Cause s fault
-    by_limit : (bytes left : List ℕ) → fault ≡ HeadTooLong → s ≡ bytes ++ left → IsHeadAtLimit F bytes → Cause s fault
-    by_fields : (bytes left : List ℕ) → fault ≡ HeadTooLong → s ≡ bytes ++ left → HasTooManyFields F bytes → Cause s fault
+    by_bytes : (bytes left : List ℕ) → ((is_head : Bool) × (fault ≡ Malformed is_head)) → s ≡ bytes ++ left → NeverHas F bytes → length bytes ≤ head_limit → Cause s fault
+    by_limit : (bytes left : List ℕ) → ((is_head : Bool) × (fault ≡ HeadTooLong is_head)) → s ≡ bytes ++ left → IsHeadAtLimit F bytes → Cause s fault
+    by_fields : (bytes left : List ℕ) → ((is_head : Bool) × (fault ≡ HeadTooLong is_head)) → s ≡ bytes ++ left → HasTooManyFields F bytes → Cause s fault
     by_end : fault ≡ EndedEarly → IsUndecided F s → length s < head_limit → Cause s fault
     by_body : fault ≡ EndedEarly → IsPartOfBody F s → Cause s fault
 
@@ -41,13 +41,19 @@ module _ (F : Form) (laws : Laws F) where
       ]
 
   cause_at : (s bytes left : List ℕ) (fault : ReadFault) → s ≡ bytes ++ left → Refuses F bytes (Some left) fault → Cause s fault
-  cause_at s bytes left Malformed split h =
-      elim h [ inl bad ↦ by_bytes bytes left refl split bad.never bad.size | inr head ↦ refused_head s bytes left Malformed split head ]
+  cause_at s bytes left (Malformed is_head) split h =
+      elim h [
+        | inl bad ↦ by_bytes bytes left (is_head, refl) split bad.0.never bad.0.size
+        | inr head ↦ refused_head s bytes left (Malformed is_head) split head
+      ]
   cause_at s bytes left (HostMissingOrRepeated is_head) split h = refused_head s bytes left (HostMissingOrRepeated is_head) split h
   cause_at s bytes left (LengthMissing is_head) split h = refused_head s bytes left (LengthMissing is_head) split h
   cause_at s bytes left (BodyTooLong is_head) split h = refused_head s bytes left (BodyTooLong is_head) split h
-  cause_at s bytes left HeadTooLong split h =
-      elim h [ inl limit ↦ by_limit bytes left refl split limit | inr fields ↦ by_fields bytes left refl split fields ]
+  cause_at s bytes left (HeadTooLong is_head) split h =
+      elim h.0 [
+        | inl limit ↦ by_limit bytes left (is_head, refl) split limit
+        | inr fields ↦ by_fields bytes left (is_head, refl) split fields
+      ]
   cause_at s bytes left (TransferCoding is_head) split h = refused_head s bytes left (TransferCoding is_head) split h
   cause_at s bytes left (Expectation is_head) split h = refused_head s bytes left (Expectation is_head) split h
   cause_at s bytes left EndedEarly split h = ended s bytes left split h
@@ -163,11 +169,11 @@ module _ (F : Form) (laws : Laws F) where
       (h.0, h.1 ++ left, split ∙ ap (λ (t : List ℕ). t ++ left) h.2 ∙ append_assoc h.0 h.1 left, h.3, h.4, h.5)
 
   stream_for_malformed : (s : List ℕ) (fault : ReadFault) → IsStreamFault fault → AnswersMalformed F s (Err fault)
-  stream_for_malformed s Malformed h = tt
+  stream_for_malformed s (Malformed is_head) h = tt
   stream_for_malformed s (HostMissingOrRepeated is_head) h = absurd h
   stream_for_malformed s (LengthMissing is_head) h = absurd h
   stream_for_malformed s (BodyTooLong is_head) h = absurd h
-  stream_for_malformed s HeadTooLong h = absurd h
+  stream_for_malformed s (HeadTooLong is_head) h = absurd h
   stream_for_malformed s (TransferCoding is_head) h = absurd h
   stream_for_malformed s (Expectation is_head) h = absurd h
   stream_for_malformed s EndedEarly h = absurd h
@@ -251,7 +257,7 @@ module _ (F : Form) (laws : Laws F) where
 
     -- no head of few field lines is whole within the limit
     long_part_at : (s bytes rest : List ℕ) (r : Result Message ReadFault) → s ≡ bytes ++ rest → IfOk r (TakesMessage F (Some s) new) → IfErr r (TakesRefused F (Some s) new)
-        → IsLongPart F bytes → Answers HeadTooLong r
+        → IsLongPart F bytes → AnswersLong r
     long_part_at s bytes rest (Ok found) split took refused part =
         let known = left_of s new took.0 took.1 in
         let m = took.2 in
@@ -259,11 +265,11 @@ module _ (F : Form) (laws : Laws F) where
         let size = m.head.size in
         let long = part.length_is in
         let p = reads_in m.front (found.body ++ known.0) bytes rest m.head.tree (sym whole ∙ split) (omega arith) m.head.reads in
-        no_head_in_part bytes part.more part.tree part.reads part.short m.head.tree p.0 p.1
+        (false, no_head_in_part bytes part.more part.tree part.reads part.short m.head.tree p.0 p.1)
     long_part_at s bytes rest (Err fault) split took refused part =
         let long = part.length_is in
         elim (cause s new fault refused) [
-          | by_stream h ↦ inr h
+          | by_stream h ↦ (false, inr h)
           | by_head front after head split2 is judged ↦
               let size = is.size in
               let p = reads_in front after bytes rest is.tree (sym split2 ∙ split) (omega arith) is.reads in
@@ -271,8 +277,8 @@ module _ (F : Form) (laws : Laws F) where
           | by_bytes front left e split2 never size ↦
               let p = front_of front left bytes rest (sym split2 ∙ split) (omega arith) in
               absurd (never_more front p.0 never part.more part.tree [] (subst (λ (t : List ℕ). F.Reads (t ++ part.more) part.tree []) p.1 part.reads))
-          | by_limit front left e split2 limit ↦ inl e
-          | by_fields front left e split2 fields ↦ inl e
+          | by_limit front left e split2 limit ↦ (e.0, inl e.1)
+          | by_fields front left e split2 fields ↦ (e.0, inl e.1)
           | by_end e undecided short ↦
               let sum : length s ≡ length bytes + length rest = ap length split ∙ length-append bytes rest in
               absurd (omega arith)
@@ -284,19 +290,19 @@ module _ (F : Form) (laws : Laws F) where
 
     -- a whole head has too many field lines
     long_section_at : (s : List ℕ) (tree : F.Tree) (rest : List ℕ) (r : Result Message ReadFault) → F.Reads s tree rest → field_limit < length (F.lines tree)
-        → IfOk r (TakesMessage F (Some s) new) → IfErr r (TakesRefused F (Some s) new) → Answers HeadTooLong r
+        → IfOk r (TakesMessage F (Some s) new) → IfErr r (TakesRefused F (Some s) new) → AnswersLong r
     long_section_at s tree rest (Ok found) reads many took refused =
         let known = left_of s new took.0 took.1 in
         let m = took.2 in
         let whole : s ≡ m.front ++ (found.body ++ known.0) = known.2 ∙ ap (λ (t : List ℕ). t ++ known.0) m.split ∙ append_assoc m.front found.body known.0 in
-        too_many s tree rest m.front (found.body ++ known.0) found.head reads many whole m.head
+        (false, too_many s tree rest m.front (found.body ++ known.0) found.head reads many whole m.head)
     long_section_at s tree rest (Err fault) reads many took refused =
         elim (cause s new fault refused) [
-          | by_stream h ↦ inr h
+          | by_stream h ↦ (false, inr h)
           | by_head front after head split is judged ↦ absurd (too_many s tree rest front after head reads many split is)
           | by_bytes bytes left e split never size ↦ absurd (never_now s bytes left split never tree rest reads)
-          | by_limit bytes left e split limit ↦ inl e
-          | by_fields bytes left e split fields ↦ inl e
+          | by_limit bytes left e split limit ↦ (e.0, inl e.1)
+          | by_fields bytes left e split fields ↦ (e.0, inl e.1)
           | by_end e undecided short ↦ absurd (undecided.none tree rest reads)
           | by_body e body ↦ absurd (too_many s tree rest body.front body.part body.head reads many body.split body.is_head)
         ]
@@ -315,11 +321,11 @@ module _ (F : Form) (laws : Laws F) where
         elim (cause s new fault refused) [
           | by_stream h ↦ stream_for_malformed s fault h
           | by_head front after head split is judged ↦ absurd (never rest is.tree after (reads_all s front after is.tree split is.reads))
-          | by_bytes front left e split never2 size2 ↦ subst (λ (f : ReadFault). AnswersMalformed F s (Err f)) (sym e) tt
+          | by_bytes front left e split never2 size2 ↦ subst (λ (f : ReadFault). AnswersMalformed F s (Err f)) (sym e.1) tt
           | by_limit front left e split limit ↦
-              subst (λ (f : ReadFault). AnswersMalformed F s (Err f)) (sym e) (inl (limit_in_target bytes rest front left size never split limit))
+              subst (λ (f : ReadFault). AnswersMalformed F s (Err f)) (sym e.1) (inl (limit_in_target bytes rest front left size never split limit))
           | by_fields front left e split fields ↦
-              subst (λ (f : ReadFault). AnswersMalformed F s (Err f)) (sym e) (inr (exceeds_more front left s split fields.exceeds))
+              subst (λ (f : ReadFault). AnswersMalformed F s (Err f)) (sym e.1) (inr (exceeds_more front left s split fields.exceeds))
           | by_end e undecided short ↦
               subst (λ (f : ReadFault). AnswersMalformed F s (Err f)) (sym e) (in_target s (never_more bytes rest never) undecided.open_end)
           | by_body e body ↦ absurd (never rest body.is_head.tree body.part (reads_all s body.front body.part body.is_head.tree body.split body.is_head.reads))

@@ -49,15 +49,17 @@ module _ (F : Form) (laws : Laws F) where
 
   refuses : (bytes : List ℕ) → length bytes ≤ head_limit → (left : Option (List ℕ)) (fault : ReadFault)
       → IsUndecidedBefore F bytes → RefusesHead F bytes fault → Refuses F bytes left fault
-  refuses bytes size left Malformed first never = inl (record { never = never; before = first; size = size })
+  refuses bytes size left (Malformed is_head) first h = inl (record { never = h.0; before = first; size = size }, h.1)
   refuses bytes size left (HostMissingOrRepeated is_head) first h = absurd h
   refuses bytes size left (LengthMissing is_head) first h = absurd h
   refuses bytes size left (BodyTooLong is_head) first h = absurd h
-  refuses bytes size left HeadTooLong first h =
-      elim h [
-        | inl limit ↦ inl limit
-        | inr fields ↦ inr (record { exceeds = fields.0; overflows = fields.1; before = first; size = size })
-      ]
+  refuses bytes size left (HeadTooLong is_head) first h = (
+    elim h.0 [
+      | inl limit ↦ inl limit
+      | inr fields ↦ inr (record { exceeds = fields.0; overflows = fields.1; before = first; size = size })
+    ],
+    h.1,
+  )
   refuses bytes size left (TransferCoding is_head) first h = absurd h
   refuses bytes size left (Expectation is_head) first h = absurd h
   refuses bytes size left EndedEarly first h = absurd h
@@ -132,11 +134,11 @@ module _ (F : Form) (laws : Laws F) where
   -- no more bytes came to a head that isn't whole
   pub TakesRefused-none : (old now new : Option (List ℕ)) (bytes : List ℕ) (fault : ReadFault) → Consumes old now bytes
       → IsUndecided F bytes × (length bytes < head_limit) → GivesNone now new fault → TakesRefused F old new fault
-  TakesRefused-none old now new bytes Malformed taken part none = absurd none
+  TakesRefused-none old now new bytes (Malformed is_head) taken part none = absurd none
   TakesRefused-none old now new bytes (HostMissingOrRepeated is_head) taken part none = absurd none
   TakesRefused-none old now new bytes (LengthMissing is_head) taken part none = absurd none
   TakesRefused-none old now new bytes (BodyTooLong is_head) taken part none = absurd none
-  TakesRefused-none old now new bytes HeadTooLong taken part none = absurd none
+  TakesRefused-none old now new bytes (HeadTooLong is_head) taken part none = absurd none
   TakesRefused-none old now new bytes (TransferCoding is_head) taken part none = absurd none
   TakesRefused-none old now new bytes (Expectation is_head) taken part none = absurd none
   TakesRefused-none old now new bytes EndedEarly taken part none = (bytes, Consumes-kept old now new bytes taken none.0, (inl part, none.1))
@@ -145,11 +147,11 @@ module _ (F : Form) (laws : Laws F) where
   TakesRefused-none old now new bytes TurnsExhausted taken part none = (bytes, Consumes-kept old now new bytes taken none, inl part)
 
   Refuses-head : (bytes : List ℕ) (left : Option (List ℕ)) (fault : ReadFault) → IsHeadFault fault → IsRefusedHead F bytes fault → Refuses F bytes left fault
-  Refuses-head bytes left Malformed h r = inr r
+  Refuses-head bytes left (Malformed is_head) h r = inr r
   Refuses-head bytes left (HostMissingOrRepeated is_head) h r = r
   Refuses-head bytes left (LengthMissing is_head) h r = r
   Refuses-head bytes left (BodyTooLong is_head) h r = r
-  Refuses-head bytes left HeadTooLong h r = absurd h
+  Refuses-head bytes left (HeadTooLong is_head) h r = absurd h
   Refuses-head bytes left (TransferCoding is_head) h r = r
   Refuses-head bytes left (Expectation is_head) h r = r
   Refuses-head bytes left EndedEarly h r = absurd h
@@ -168,11 +170,11 @@ module _ (F : Form) (laws : Laws F) where
 
     -- a body that was cut short
     pub TakesRefused-cut : (fault : ReadFault) → CutsBody now new n fault → TakesRefused F old new fault
-    TakesRefused-cut Malformed cut = absurd cut
+    TakesRefused-cut (Malformed is_head) cut = absurd cut
     TakesRefused-cut (HostMissingOrRepeated is_head) cut = absurd cut
     TakesRefused-cut (LengthMissing is_head) cut = absurd cut
     TakesRefused-cut (BodyTooLong is_head) cut = absurd cut
-    TakesRefused-cut HeadTooLong cut = absurd cut
+    TakesRefused-cut (HeadTooLong is_head) cut = absurd cut
     TakesRefused-cut (TransferCoding is_head) cut = absurd cut
     TakesRefused-cut (Expectation is_head) cut = absurd cut
     TakesRefused-cut EndedEarly cut = (took.0 ++ cut.0, Consumes-then old now new took.0 cut.0 took.1 cut.1, (inr (part cut.0 cut.2), cut.3))

@@ -8,7 +8,7 @@ use Rattle.http_text.specs.declared.fault.ReadFault.TheVariants.{Malformed, Host
 use Rattle.http_text.specs.Message.{Message, head_limit}
 use Rattle.http_text.specs.Judging.{has_chunks, is_interim}
 use Rattle.http_text.specs.Forms.{response_form, IsMessage, IsAcceptable, IsOneResponse, IsInterim, AfterInterims, interim_limit, IsFinalResponse, IsResponseMessage}
-use Rattle.http_text.specs.Heads.{IsStreamFault, Finds, Answers, AnswersMalformed, IsRefusedHead, IsLongPart, HasLongSection, NeverHas}
+use Rattle.http_text.specs.Heads.{IsStreamFault, Finds, Answers, AnswersLong, AnswersMalformed, IsRefusedHead, IsLongPart, HasLongSection, NeverHas}
 use Rattle.http_text.specs.Chunks.{NeverEnds}
 use Rattle.http_text.specs.Responses.{HasBehind, TakesOne, TakesRefusedOne, IsPartOfOne, RefusesResponse, TakesWithin, TakesRefusedWithin, TakesResponse, TakesRefusedResponse, FindsResponse, FindsRefusedResponse, FindsResponseEnd, FindsLongResponse, AnswersMalformedHead, FindsMalformedResponse, AnswersMalformedBody, FindsMalformedBody, FindsInterims, ResponsesAreApart}
 use Rattle.http_text.proofs.FindLemmas.{left_of, finds_refused_head, finds_end, finds_long, finds_malformed}
@@ -85,7 +85,7 @@ refuses_first zero old new fault took = (took.0, took.1, inl took.2)
 refuses_first (suc room) old new fault took = (took.0, took.1, inl (inl took.2))
 
 -- an interim response for which there is no room
-pub refuses_interim : (room : ℕ) (old new : Option (List ℕ)) (m : Message) → room ≡ 0 → is_interim m.head ≡ true → TakesOne old new m → TakesRefusedWithin room old new Malformed
+pub refuses_interim : (room : ℕ) (old new : Option (List ℕ)) (m : Message) → room ≡ 0 → is_interim m.head ≡ true → TakesOne old new m → TakesRefusedWithin room old new (Malformed false)
 refuses_interim zero old new m none interim took = (took.0, took.1, inr (none, record { message = m; is = took.2; interim = interim }, refl))
 refuses_interim (suc room) old new m none interim took = absurd (omega (arith, none))
 
@@ -151,7 +151,7 @@ module _ (P : ℕ → List ℕ → Type 0) (Y : Result Message ReadFault → Typ
     (final : (room : ℕ) (s last : List ℕ) (r : Result Message ReadFault) → s ≡ last ++ end → P room last → IfOk r (TakesFinal s new) → IfErr r (TakesRefusedOne (Some s) new) → Y r)
     -- they are no interim response, or there is no room for one
     (passes : (room : ℕ) (s last front rest : List ℕ) → s ≡ last ++ end → P (suc room) last → s ≡ front ++ rest → IsInterim front → ⊥)
-    (ninth : (s last front rest : List ℕ) → s ≡ last ++ end → P zero last → s ≡ front ++ rest → IsInterim front → Y (Err Malformed)) where
+    (ninth : (s last front rest : List ℕ) → s ≡ last ++ end → P zero last → s ≡ front ++ rest → IsInterim front → Y (Err (Malformed false))) where
   settles_ok : (room : ℕ) (s bytes left all : List ℕ) (m : Message) → new ≡ Some left → s ≡ bytes ++ left → AfterInterims room (IsFinalResponse m) bytes → s ≡ all ++ end → AfterInterims room P all → Y (Ok m)
   settles_ok zero s bytes left all m known e x f p = final zero s all (Ok m) f p ((bytes, subst (λ o. Consumes (Some s) o bytes) (sym known) e, x.0), x.1) tt
   settles_ok (suc room) s bytes left all m known e (inl x) f (inl p) = final (suc room) s all (Ok m) f p ((bytes, subst (λ o. Consumes (Some s) o bytes) (sym known) e, x.0), x.1) tt
@@ -190,11 +190,11 @@ stream_answers : (wanted fault : ReadFault) → IsStreamFault fault → Answers 
 stream_answers wanted fault h = inr h
 
 stream_malformed : (all : List ℕ) (fault : ReadFault) → IsStreamFault fault → AnswersMalformedHead all (Err fault)
-stream_malformed all Malformed h = tt
+stream_malformed all (Malformed is_head) h = tt
 stream_malformed all (HostMissingOrRepeated is_head) h = absurd h
 stream_malformed all (LengthMissing is_head) h = absurd h
 stream_malformed all (BodyTooLong is_head) h = absurd h
-stream_malformed all HeadTooLong h = absurd h
+stream_malformed all (HeadTooLong is_head) h = absurd h
 stream_malformed all (TransferCoding is_head) h = absurd h
 stream_malformed all (Expectation is_head) h = absurd h
 stream_malformed all EndedEarly h = absurd h
@@ -252,9 +252,9 @@ module _ (old new : Option (List ℕ)) (r : Result Message ReadFault) (took : If
 
   pub finds_long_response : FindsLongResponse old r
   finds_long_response h =
-      claims (λ bytes. IsLongPart response_form bytes ⊎ HasLongSection response_form bytes) (Answers HeadTooLong) (stream_answers HeadTooLong) (λ m x. x) h.1
+      claims (λ bytes. IsLongPart response_form bytes ⊎ HasLongSection response_form bytes) AnswersLong (λ f x. (false, inr x)) (λ m x. x.1) h.1
       (λ s last k q split p x y.
-      by_head k (Answers HeadTooLong) s (λ m z. z) (λ mid j a b. finds_long response_form response_laws (Some s) mid j a b last h.1 (ap Some split) p) q x y)
+      by_head k AnswersLong s (λ m z. z.1) (λ mid j a b. finds_long response_form response_laws (Some s) mid j a b last h.1 (ap Some split) p) q x y)
       h.0 h.2 h.3
 
   pub finds_malformed_body : FindsMalformedBody old r
@@ -265,13 +265,13 @@ module _ (old new : Option (List ℕ)) (r : Result Message ReadFault) (took : If
 
   pub finds_interims : FindsInterims old r
   finds_interims h =
-      settles (λ room bytes. (room ≡ 0) × IsInterim bytes) (Answers Malformed) new (stream_answers Malformed) h.1
+      settles (λ room bytes. (room ≡ 0) × IsInterim bytes) (Answers (Malformed false)) new (stream_answers (Malformed false)) h.1
       (λ room s last q split p x y. no_final s last q split p.1 x y)
       (λ room s last front rest split p other i. absurd (omega (arith, p.0)))
       (λ s last front rest split p other i. inl refl)
       (h.0 ++ h.1) h.0 r (took_at _ h.2) (refused_at _ h.2) refl h.3
     where
-      no_final : (s last : List ℕ) (q : Result Message ReadFault) → s ≡ last ++ h.1 → IsInterim last → IfOk q (TakesFinal s new) → IfErr q (TakesRefusedOne (Some s) new) → Answers Malformed q
+      no_final : (s last : List ℕ) (q : Result Message ReadFault) → s ≡ last ++ h.1 → IsInterim last → IfOk q (TakesFinal s new) → IfErr q (TakesRefusedOne (Some s) new) → Answers (Malformed false) q
       no_final s last (Ok m) split i x y =
           let known = left_of response_form response_laws s new x.0.0 x.0.1 in
           final_is_last last h.1 x.0.0 known.0 m (sym split ∙ known.2) i x.0.2 x.1
@@ -290,12 +290,12 @@ module _ (old new : Option (List ℕ)) (r : Result Message ReadFault) (took : If
     where
       within : (s last : List ℕ) → s ≡ last ++ rest → ((front : List ℕ) × (bytes ≡ front ++ last)) → (q : Result Message ReadFault) → AnswersMalformed response_form s q → AnswersMalformedHead (bytes ++ rest) q
       within s last split at (Ok m) a = a
-      within s last split at (Err Malformed) a = tt
+      within s last split at (Err (Malformed is_head)) a = tt
       within s last split at (Err (HostMissingOrRepeated is_head)) a = a
       within s last split at (Err (LengthMissing is_head)) a = a
       within s last split at (Err (BodyTooLong is_head)) a = a
-      within s last split at (Err HeadTooLong) (inl a) = absurd a
-      within s last split at (Err HeadTooLong) (inr a) =
+      within s last split at (Err (HeadTooLong is_head)) (inl a) = absurd a
+      within s last split at (Err (HeadTooLong is_head)) (inr a) =
           (at.0, s, ap (λ t. t ++ rest) at.1 ∙ append_assoc at.0 last rest ∙ ap (λ t. at.0 ++ t) (sym split), a)
       within s last split at (Err (TransferCoding is_head)) a = a
       within s last split at (Err (Expectation is_head)) a = a

@@ -9,11 +9,11 @@ use Rattle.http_text.specs.Judging.{◌>>=◌, refused_where, readable_length, l
 
 -- a refusal by the head
 abbrev pub IsHeadFault : ReadFault → Type 0
-IsHeadFault Malformed = ⊤
+IsHeadFault (Malformed is_head) = ⊤
 IsHeadFault (HostMissingOrRepeated is_head) = ⊤
 IsHeadFault (LengthMissing is_head) = ⊤
 IsHeadFault (BodyTooLong is_head) = ⊤
-IsHeadFault HeadTooLong = ⊥
+IsHeadFault (HeadTooLong is_head) = ⊥
 IsHeadFault (TransferCoding is_head) = ⊤
 IsHeadFault (Expectation is_head) = ⊤
 IsHeadFault EndedEarly = ⊥
@@ -33,7 +33,7 @@ wanted_fault false h (Some n) = limit_fault (nat_lt body_limit n) h n
 
 -- the steps of judging, whatever they test
 abbrev judged : Length → Bool → Bool → Bool → Bool → Bool → ReadFault → ReadFault → ReadFault → Result ℕ ReadFault
-judged l a b c w h f g e = readable_length l >>= (λ length. refused_where a f >>= (λ _. refused_where b g >>= (λ _. refused_where c e >>= (λ _. length_wanted w h length))))
+judged l a b c w h f g e = readable_length h l >>= (λ length. refused_where a f >>= (λ _. refused_where b g >>= (λ _. refused_where c e >>= (λ _. length_wanted w h length))))
 
 refused : (a b c w h : Bool) (f g e : ReadFault) → IsHeadFault f → IsHeadFault g → IsHeadFault e → (length : Option ℕ)
     → IfErr (refused_where a f >>= (λ _. refused_where b g >>= (λ _. refused_where c e >>= (λ _. length_wanted w h length)))) IsHeadFault
@@ -101,7 +101,7 @@ response_fault false false None = tt
 response_fault false false (Some n) = limit_fault (nat_lt response_body_limit n) false n
 
 abbrev judged_response : Length → Bool → Bool → Bool → Bool → Result ℕ ReadFault
-judged_response l a b c k = refused_where a Malformed >>= (λ _. refused_where b Malformed >>= (λ _. readable_length l >>= (λ length. response_length c k length)))
+judged_response l a b c k = refused_where a (Malformed false) >>= (λ _. refused_where b (Malformed false) >>= (λ _. readable_length false l >>= (λ length. response_length c k length)))
 
 response_faults : (l : Length) (a b c k : Bool) → IfErr (judged_response l a b c k) IsHeadFault
 response_faults l true b c k = tt

@@ -16,12 +16,12 @@ use Rattle.http_text.proofs.FormLaws.{Laws}
 module _ (F : Form) (laws : Laws F) where
   refused_reads : (all : List ℕ) (tree : F.Tree) (rest : List ℕ) (fault : ReadFault) → RefusesHead F all fault
       → F.Reads all tree rest → length (F.lines tree) ≤ field_limit → ⊥
-  refused_reads all tree rest Malformed h reads few = h [] tree (rest ++ []) (laws.append all tree rest [] reads)
+  refused_reads all tree rest (Malformed is_head) h reads few = h.0 [] tree (rest ++ []) (laws.append all tree rest [] reads)
   refused_reads all tree rest (HostMissingOrRepeated is_head) h reads few = h
   refused_reads all tree rest (LengthMissing is_head) h reads few = h
   refused_reads all tree rest (BodyTooLong is_head) h reads few = h
-  refused_reads all tree rest HeadTooLong h reads few =
-      elim h [
+  refused_reads all tree rest (HeadTooLong is_head) h reads few =
+      elim h.0 [
         | inl limit ↦ limit.undecided.none tree rest reads
         | inr fields ↦
             let many = fields.1 [] tree (rest ++ []) (laws.append all tree rest [] reads) in

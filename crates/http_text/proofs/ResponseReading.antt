@@ -199,5 +199,5 @@ module _ (new : Option (List ℕ)) where
       let reads = chunked_before body.0 m.body body.1 body.3 in
       never rest m.body body.1 (subst (λ t. ReadsChunked t m.body body.1) (sym body.2) reads.reads)
   malformed_at s bytes behind rest (Err fault) whole has never took refused =
-      by_chunks s bytes behind rest whole has (λ f. (f ≡ Malformed) ⊎ ((f ≡ BodyTooLong false) ⊎ IsStreamFault f)) (λ f h. inr (inr h))
+      by_chunks s bytes behind rest whole has (λ f. (f ≡ Malformed false) ⊎ ((f ≡ BodyTooLong false) ⊎ IsStreamFault f)) (λ f h. inr (inr h))
       (λ part left f e h. body_is_refused (behind ++ rest) part left behind rest f e refl never h) fault refused

@@ -244,11 +244,11 @@ open_part place bytes at is_open = part_of_trailers bytes (subst IsOpen (sym at)
 
 -- no more bytes came
 pub cut_none : (old now new : Option (List ℕ)) (bytes : List ℕ) (room : ℕ) (fault : ReadFault) → Consumes old now bytes → IsPartOfTrailers bytes → GivesNone now new fault → CutsTrailers room old new fault
-cut_none old now new bytes room faults.Malformed taken part none = absurd none
+cut_none old now new bytes room (faults.Malformed is_head) taken part none = absurd none
 cut_none old now new bytes room (faults.HostMissingOrRepeated is_head) taken part none = absurd none
 cut_none old now new bytes room (faults.LengthMissing is_head) taken part none = absurd none
 cut_none old now new bytes room (faults.BodyTooLong is_head) taken part none = absurd none
-cut_none old now new bytes room faults.HeadTooLong taken part none = absurd none
+cut_none old now new bytes room (faults.HeadTooLong is_head) taken part none = absurd none
 cut_none old now new bytes room (faults.TransferCoding is_head) taken part none = absurd none
 cut_none old now new bytes room (faults.Expectation is_head) taken part none = absurd none
 cut_none old now new bytes room faults.EndedEarly taken part none = (bytes, Consumes-kept old now new bytes taken none.0, (part, none.1))

@@ -31,11 +31,11 @@ SpendsTurns-more old now new a b h some one =
 
 -- a step after others in which no read failed
 pub EndsTurns-then : (old now new : Reading) (after : ℕ) (fault : ReadFault) → now.failures ≡ old.failures → EndsTurns now new after fault → EndsTurns old new after fault
-EndsTurns-then old now new after Malformed same h = h ∙ same
+EndsTurns-then old now new after (Malformed is_head) same h = h ∙ same
 EndsTurns-then old now new after (HostMissingOrRepeated is_head) same h = h ∙ same
 EndsTurns-then old now new after (LengthMissing is_head) same h = h ∙ same
 EndsTurns-then old now new after (BodyTooLong is_head) same h = h ∙ same
-EndsTurns-then old now new after HeadTooLong same h = h ∙ same
+EndsTurns-then old now new after (HeadTooLong is_head) same h = h ∙ same
 EndsTurns-then old now new after (TransferCoding is_head) same h = h ∙ same
 EndsTurns-then old now new after (Expectation is_head) same h = h ∙ same
 EndsTurns-then old now new after EndedEarly same h = h ∙ same
@@ -53,11 +53,11 @@ reached old new after h none =
     rw all (HasReached-count_up turn_limit old.calls)
 
 pub EndsReading-spent : (old new : Reading) (after : ℕ) (fault : ReadFault) → SpendsTurns old new turn_limit after → EndsTurns old new after fault → EndsReading old new fault
-EndsReading-spent old new after Malformed h k = k
+EndsReading-spent old new after (Malformed is_head) h k = k
 EndsReading-spent old new after (HostMissingOrRepeated is_head) h k = k
 EndsReading-spent old new after (LengthMissing is_head) h k = k
 EndsReading-spent old new after (BodyTooLong is_head) h k = k
-EndsReading-spent old new after HeadTooLong h k = k
+EndsReading-spent old new after (HeadTooLong is_head) h k = k
 EndsReading-spent old new after (TransferCoding is_head) h k = k
 EndsReading-spent old new after (Expectation is_head) h k = k
 EndsReading-spent old new after EndedEarly h k = k

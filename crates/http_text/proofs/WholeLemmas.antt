@@ -41,13 +41,13 @@ module _ (F : Form) (laws : Laws F) (bytes front : List ℕ) (is : front ≡ tak
   no_head none m whole = let p = in_front m whole in none whole.0.head.tree p.0 p.1
 
   pub refused_head : (fault : ReadFault) → RefusesHead F front fault → IsNone F bytes
-  refused_head Malformed never =
-      no_head (λ tree rest h. never [] tree rest (subst (λ (t : List ℕ). F.Reads t tree rest) (sym (append-nil front)) h))
+  refused_head (Malformed is_head) never =
+      no_head (λ tree rest h. never.0 [] tree rest (subst (λ (t : List ℕ). F.Reads t tree rest) (sym (append-nil front)) h))
   refused_head (HostMissingOrRepeated is_head) h = absurd h
   refused_head (LengthMissing is_head) h = absurd h
   refused_head (BodyTooLong is_head) h = absurd h
-  refused_head HeadTooLong h =
-      elim h [
+  refused_head (HeadTooLong is_head) h =
+      elim h.0 [
         | inl limit ↦ no_head limit.undecided.none
         | inr fields ↦ λ m whole.
             let p = in_front m whole in

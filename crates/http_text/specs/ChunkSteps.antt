@@ -37,13 +37,14 @@ IsTrailerPartBefore bytes = (front : List ℕ) × (last : ℕ) × (bytes ≡ fro
 
 -- the bytes that were taken of trailers are refused with this fault, if they may have as many bytes as there is room for
 abbrev pub RefusesTrailers : ℕ → List ℕ → Option (List ℕ) → ReadFault → Type 0
-RefusesTrailers room bytes left Malformed =
+RefusesTrailers room bytes left (Malformed true) = ⊥
+RefusesTrailers room bytes left (Malformed false) =
     ((more : List ℕ) → HasNoTrailers (bytes ++ more)) × IsTrailerPartBefore bytes
 RefusesTrailers room bytes left (HostMissingOrRepeated is_head) = ⊥
 RefusesTrailers room bytes left (LengthMissing is_head) = ⊥
 RefusesTrailers room bytes left (BodyTooLong true) = ⊥
 RefusesTrailers room bytes left (BodyTooLong false) = (length bytes ≡ room + 1) × IsTrailerPartBefore bytes
-RefusesTrailers room bytes left HeadTooLong = ⊥
+RefusesTrailers room bytes left (HeadTooLong is_head) = ⊥
 RefusesTrailers room bytes left (TransferCoding is_head) = ⊥
 RefusesTrailers room bytes left (Expectation is_head) = ⊥
 RefusesTrailers room bytes left EndedEarly = IsPartOfTrailers bytes × IsAtEnd left

@@ -113,12 +113,13 @@ pub record IsLongBody (bytes : List ℕ) : Type 0 where
 
 -- the bytes that were taken of a body in chunks are refused with this fault, while these are left
 abbrev pub RefusesBody : List ℕ → Option (List ℕ) → ReadFault → Type 0
-RefusesBody bytes left Malformed = IsMalformedBody bytes
+RefusesBody bytes left (Malformed true) = ⊥
+RefusesBody bytes left (Malformed false) = IsMalformedBody bytes
 RefusesBody bytes left (HostMissingOrRepeated is_head) = ⊥
 RefusesBody bytes left (LengthMissing is_head) = ⊥
 RefusesBody bytes left (BodyTooLong true) = ⊥
 RefusesBody bytes left (BodyTooLong false) = IsLongBody bytes
-RefusesBody bytes left HeadTooLong = ⊥
+RefusesBody bytes left (HeadTooLong is_head) = ⊥
 RefusesBody bytes left (TransferCoding is_head) = ⊥
 RefusesBody bytes left (Expectation is_head) = ⊥
 RefusesBody bytes left EndedEarly = IsPartOfChunks bytes × IsAtEnd left

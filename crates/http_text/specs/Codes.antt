@@ -6,11 +6,11 @@ use Rattle.http_text.specs.declared.fault.SendFault.{SendFault}
 use Rattle.http_text.specs.declared.fault.SendFault.TheVariants as sends
 
 abbrev pub read_fault_text : ReadFault → List ℕ
-read_fault_text reads.Malformed = codes "H1"
+read_fault_text (reads.Malformed _) = codes "H1"
 read_fault_text (reads.HostMissingOrRepeated _) = codes "H2"
 read_fault_text (reads.LengthMissing _) = codes "H3"
 read_fault_text (reads.BodyTooLong _) = codes "H4"
-read_fault_text reads.HeadTooLong = codes "H5"
+read_fault_text (reads.HeadTooLong _) = codes "H5"
 read_fault_text (reads.TransferCoding _) = codes "H6"
 read_fault_text (reads.Expectation _) = codes "H7"
 read_fault_text reads.EndedEarly = codes "H10"

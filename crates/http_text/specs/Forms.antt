@@ -6,7 +6,7 @@ use Rattle.http_text.specs.declared.fault.ReadFault.{ReadFault}
 use Rattle.http_text.specs.declared.limits.TheConstants.{INTERIM_LIMIT}
 use Rattle.http_text.specs.Chunks.{IsChunkedBody}
 use Rattle.http_text.specs.Message.{StartLine, request_line, status_line, Head, Message, code_of, length_of, body_length, head_limit, field_limit}
-use Rattle.http_text.specs.Judging.{is_bodiless, is_interim, has_chunks, judge_head, judge_response}
+use Rattle.http_text.specs.Judging.{has_method_head, is_bodiless, is_interim, has_chunks, judge_head, judge_response}
 
 pub record Form : Type 1 where
   -- the heads of httparse's grammar: which bytes they read and print, their first line and their field lines
@@ -20,6 +20,8 @@ pub record Form : Type 1 where
   pub judge : Head → Result ℕ ReadFault
   -- a part that isn't refused yet, though no bytes may complete it
   pub IsLate : List ℕ → Type 0
+  -- whether bytes that are refused as a head begin with the method HEAD
+  pub has_method_head : List ℕ → Bool
 
 -- only the end of a target decides whether the target is UTF-8
 abbrev pub request_form : Form
@@ -32,6 +34,7 @@ request_form = record {
   body = λ head. body_length (length_of head);
   judge = judge_head;
   IsLate = EndsInTarget;
+  has_method_head = has_method_head;
 }
 
 -- some have no body, whatever they state; chunks aren't counted
@@ -45,6 +48,7 @@ response_form = record {
   body = λ head. if is_bodiless (code_of head.start) then 0 else body_length (length_of head);
   judge = judge_response;
   IsLate = λ bytes. ⊥;
+  has_method_head = λ bytes. false;
 }
 
 module _ (F : Form) where

@@ -1,5 +1,5 @@
 -- What is read of a message of either form, and when each refusal comes.
-use Rattle.std.specs.Prelude.{◌≡◌, ℕ, ◌<◌, ◌≤◌, ◌⊎◌, List, [], ◌∷◌, ◌++◌, length, take, Option, Some, Result, Ok, Err, ⊤}
+use Rattle.std.specs.Prelude.{◌≡◌, ℕ, Bool, ◌<◌, ◌≤◌, ◌⊎◌, List, [], ◌∷◌, ◌++◌, length, take, Option, Some, Result, Ok, Err, ⊤}
 use Rattle.std.specs.Io.KnownBytes.{Consumes, IsAtEnd}
 use Rattle.httparse.specs.Grammar.{lf, print_end}
 use Rattle.http_text.specs.declared.fault.ReadFault.{ReadFault}
@@ -10,11 +10,11 @@ use Rattle.http_text.specs.Forms.{Form, IsHead, IsMessage, IsAcceptable}
 
 -- a fault of the stream, or out of memory, whatever the bytes are
 abbrev pub IsStreamFault : ReadFault → Type 0
-IsStreamFault Malformed = ⊥
+IsStreamFault (Malformed is_head) = ⊥
 IsStreamFault (HostMissingOrRepeated is_head) = ⊥
 IsStreamFault (LengthMissing is_head) = ⊥
 IsStreamFault (BodyTooLong is_head) = ⊥
-IsStreamFault HeadTooLong = ⊥
+IsStreamFault (HeadTooLong is_head) = ⊥
 IsStreamFault (TransferCoding is_head) = ⊥
 IsStreamFault (Expectation is_head) = ⊥
 IsStreamFault EndedEarly = ⊥
@@ -31,6 +31,10 @@ Finds m rest left (Err fault) = IsStreamFault fault
 abbrev pub Answers : ReadFault → Result Message ReadFault → Type 0
 Answers fault (Ok found) = ⊥
 Answers fault (Err answered) = (answered ≡ fault) ⊎ IsStreamFault answered
+
+-- the head is too long, whether or not its method is HEAD; or the stream had a fault
+abbrev pub AnswersLong : Result Message ReadFault → Type 0
+AnswersLong r = (is_head : Bool) × Answers (HeadTooLong is_head) r
 
 -- a failure was counted, or no turn was left; otherwise no read failed
 abbrev pub EndsReading : Reading → Reading → ReadFault → Type 0
@@ -112,11 +116,13 @@ module _ (F : Form) where
 
   -- the bytes that were taken are refused with this fault, while these are left
   abbrev pub Refuses : List ℕ → Option (List ℕ) → ReadFault → Type 0
-  Refuses bytes left Malformed = IsMalformedHead bytes ⊎ IsRefusedHead bytes Malformed
+  Refuses bytes left (Malformed is_head) =
+      (IsMalformedHead bytes × (is_head ≡ F.has_method_head bytes)) ⊎ IsRefusedHead bytes (Malformed is_head)
   Refuses bytes left (HostMissingOrRepeated is_head) = IsRefusedHead bytes (HostMissingOrRepeated is_head)
   Refuses bytes left (LengthMissing is_head) = IsRefusedHead bytes (LengthMissing is_head)
   Refuses bytes left (BodyTooLong is_head) = IsRefusedHead bytes (BodyTooLong is_head)
-  Refuses bytes left HeadTooLong = IsHeadAtLimit bytes ⊎ HasTooManyFields bytes
+  Refuses bytes left (HeadTooLong is_head) =
+      (IsHeadAtLimit bytes ⊎ HasTooManyFields bytes) × (is_head ≡ F.has_method_head bytes)
   Refuses bytes left (TransferCoding is_head) = IsRefusedHead bytes (TransferCoding is_head)
   Refuses bytes left (Expectation is_head) = IsRefusedHead bytes (Expectation is_head)
   Refuses bytes left EndedEarly = IsUnfinished bytes × IsAtEnd left
@@ -172,17 +178,17 @@ module _ (F : Form) where
   abbrev pub FindsLong : Option (List ℕ) → Result Message ReadFault → Type 0
   FindsLong old r =
       (bytes rest : List ℕ) → old ≡ Some (bytes ++ rest) → IsLongPart bytes ⊎ HasLongSection bytes
-      → Answers HeadTooLong r
+      → AnswersLong r
 
   -- the results that a malformed head may have: in a target, the malformed byte may be noticed only at the target's
   -- end, and among field lines beyond the limit not at all
   abbrev pub AnswersMalformed : List ℕ → Result Message ReadFault → Type 0
   AnswersMalformed all (Ok found) = ⊥
-  AnswersMalformed all (Err Malformed) = ⊤
+  AnswersMalformed all (Err (Malformed is_head)) = ⊤
   AnswersMalformed all (Err (HostMissingOrRepeated is_head)) = ⊥
   AnswersMalformed all (Err (LengthMissing is_head)) = ⊥
   AnswersMalformed all (Err (BodyTooLong is_head)) = ⊥
-  AnswersMalformed all (Err HeadTooLong) = F.IsLate (take head_limit all) ⊎ Exceeds field_limit all
+  AnswersMalformed all (Err (HeadTooLong is_head)) = F.IsLate (take head_limit all) ⊎ Exceeds field_limit all
   AnswersMalformed all (Err (TransferCoding is_head)) = ⊥
   AnswersMalformed all (Err (Expectation is_head)) = ⊥
   AnswersMalformed all (Err EndedEarly) = F.IsLate all

@@ -1,5 +1,7 @@
 -- Which requests and responses are refused by their heads, and in which order.
-use Rattle.std.specs.Prelude.{ℕ, Bool, true, false, ◌||◌, ◌&&◌, not, List, [], ◌∷◌, Option, Some, None, Result, Ok, Err, if◌then◌else◌, ◌==◌, nat_lt, codes}
+use Rattle.std.specs.Prelude.{ℕ, Bool, true, false, ◌||◌, ◌&&◌, not, List, [], ◌∷◌, drop, Option, Some, None, Result, Ok, Err, if◌then◌else◌, ◌==◌, nat_eq, nat_le, nat_lt, codes}
+use Rattle.std.specs.Char.{is_ascii_whitespace}
+use Rattle.std.specs.List.{list_all, prefix_len, starts_with}
 use Rattle.std.specs.Str.{bytes_eq}
 use Rattle.http_text.specs.declared.fault.ReadFault.{ReadFault}
 use Rattle.http_text.specs.declared.fault.ReadFault.TheVariants.{Malformed, HostMissingOrRepeated, LengthMissing, BodyTooLong, TransferCoding, Expectation}
@@ -19,14 +21,29 @@ refused_where false fault = Ok tt
 abbrev pub is_head : Head → Bool
 is_head head = bytes_eq (method_of head.start) (codes "HEAD")
 
+-- a request that begins with these bytes has the method HEAD; white space before it is passed over
+abbrev pub has_method_head : List ℕ → Bool
+has_method_head bytes = starts_with nat_eq (drop (prefix_len is_ascii_whitespace bytes) bytes) (codes "HEAD ")
+
 -- POST and PUT have a body
 abbrev pub has_body : Head → Bool
 has_body head = bytes_eq (method_of head.start) (codes "POST") || bytes_eq (method_of head.start) (codes "PUT")
 
--- HTTP/1.1 requires one Host, and no request may have two
+-- a byte of a host and its port (RFC 9110, section 7.2; RFC 3986, section 3.2.2): a letter, a digit, or one of
+-- `-._~!$&'()*+,;=%:[]`
+abbrev pub is_host_byte : ℕ → Bool
+is_host_byte b =
+    (b == 33) || (nat_le 36 b && nat_le b 46) || (nat_le 48 b && nat_le b 59) || (b == 61)
+    || (nat_le 65 b && nat_le b 91) || (b == 93) || (b == 95) || (nat_le 97 b && nat_le b 122) || (b == 126)
+
+-- a host, with or without a port, has only such bytes; it may be empty
+abbrev pub is_host : List ℕ → Bool
+is_host text = list_all is_host_byte text
+
+-- HTTP/1.1 requires one Host, no request may have two, and its value is a host
 abbrev pub is_host_wrong : ℕ → List (List ℕ) → Bool
 is_host_wrong minor [] = minor == 1
-is_host_wrong minor (host ∷ []) = false
+is_host_wrong minor (host ∷ []) = not (is_host host)
 is_host_wrong minor (host ∷ other ∷ hosts) = true
 
 abbrev pub is_any : List (List ℕ) → Bool
@@ -34,10 +51,10 @@ is_any [] = false
 is_any (value ∷ values) = true
 
 -- the length, absent or stated, or a refusal
-abbrev pub readable_length : Length → Result (Option ℕ) ReadFault
-readable_length absent = Ok None
-readable_length (stated n) = Ok (Some n)
-readable_length unreadable = Err Malformed
+abbrev pub readable_length : Bool → Length → Result (Option ℕ) ReadFault
+readable_length is_head absent = Ok None
+readable_length is_head (stated n) = Ok (Some n)
+readable_length is_head unreadable = Err (Malformed is_head)
 
 -- the body's length: a POST or PUT must state it, and it is within its limit
 abbrev pub length_wanted : Bool → Bool → Option ℕ → Result ℕ ReadFault
@@ -48,7 +65,7 @@ length_wanted wanted is_head (Some n) = if nat_lt body_limit n then Err (BodyToo
 -- the length of the body that follows a request's head, or the first refusal
 abbrev pub judge_head : Head → Result ℕ ReadFault
 judge_head head = do
-  length ← readable_length (length_of head)
+  length ← readable_length (is_head head) (length_of head)
   _ ← refused_where (is_host_wrong (minor_of head.start) (values (codes "host") head.fields))
       (HostMissingOrRepeated (is_head head))
   _ ← refused_where (is_any (values (codes "transfer-encoding") head.fields)) (TransferCoding (is_head head))
@@ -84,15 +101,15 @@ has_chunks head = not (is_bodiless (code_of head.start)) && is_chunked_alone (co
 -- the length of a response's body: it is stated, or the body has none or comes in chunks
 abbrev pub response_length : (is_bodiless is_chunked : Bool) → Option ℕ → Result ℕ ReadFault
 response_length bodiless true None = Ok 0
-response_length bodiless true (Some n) = Err Malformed
+response_length bodiless true (Some n) = Err (Malformed false)
 response_length true false length = Ok 0
-response_length false false None = Err Malformed
+response_length false false None = Err (Malformed false)
 response_length false false (Some n) = if nat_lt response_body_limit n then Err (BodyTooLong false) else Ok n
 
 -- the length of the body that follows a response's head, 0 before chunks, or the first refusal
 abbrev pub judge_response : Head → Result ℕ ReadFault
 judge_response head = do
-  _ ← refused_where (is_no_status (code_of head.start)) Malformed
-  _ ← refused_where (is_any (codings head) && not (is_chunked_alone (codings head))) Malformed
-  length ← readable_length (length_of head)
+  _ ← refused_where (is_no_status (code_of head.start)) (Malformed false)
+  _ ← refused_where (is_any (codings head) && not (is_chunked_alone (codings head))) (Malformed false)
+  length ← readable_length false (length_of head)
   response_length (is_bodiless (code_of head.start)) (is_chunked_alone (codings head)) length

@@ -7,7 +7,7 @@ use Rattle.http_text.specs.declared.fault.ReadFault.TheVariants.{Malformed, Host
 use Rattle.http_text.specs.Message.{Message, head_limit, field_limit}
 use Rattle.http_text.specs.Judging.{has_chunks}
 use Rattle.http_text.specs.Forms.{response_form, IsMessage, IsAcceptable, IsOneResponse, IsInterim, AfterInterims, interim_limit, IsFinalResponse, IsResponseMessage}
-use Rattle.http_text.specs.Heads.{Finds, Answers, IsStreamFault, IsPartOfHead, IsPartOfBody, IsRefusedHead, IsLongPart, HasLongSection, NeverHas, Exceeds}
+use Rattle.http_text.specs.Heads.{Finds, Answers, AnswersLong, IsStreamFault, IsPartOfHead, IsPartOfBody, IsRefusedHead, IsLongPart, HasLongSection, NeverHas, Exceeds}
 use Rattle.http_text.specs.Heads as heads
 use Rattle.http_text.specs.Chunks.{NeverEnds, IsPartWithin, RefusesBody}
 
@@ -45,7 +45,8 @@ TakesRefusedOne old new fault = (bytes : List ℕ) × Consumes old new bytes × 
 
 -- the bytes are refused, or are an interim response for which there is no room
 abbrev pub RefusesResponse : Option (List ℕ) → ReadFault → ℕ → List ℕ → Type 0
-RefusesResponse left fault room bytes = RefusesOne bytes left fault ⊎ ((room ≡ 0) × IsInterim bytes × (fault ≡ Malformed))
+RefusesResponse left fault room bytes =
+    RefusesOne bytes left fault ⊎ ((room ≡ 0) × IsInterim bytes × (fault ≡ Malformed false))
 
 -- if there is room for as many interim responses, exactly the bytes of a response were taken
 abbrev pub TakesWithin : ℕ → Option (List ℕ) → Option (List ℕ) → Message → Type 0
@@ -86,16 +87,16 @@ FindsResponseEnd old r =
 abbrev pub FindsLongResponse : Option (List ℕ) → Result Message ReadFault → Type 0
 FindsLongResponse old r =
     HasFront (λ room bytes. IsLongPart response_form bytes ⊎ HasLongSection response_form bytes) old
-    → Answers HeadTooLong r
+    → AnswersLong r
 
 -- the results that a malformed head may have: among field lines beyond the limit it may not be noticed
 abbrev pub AnswersMalformedHead : List ℕ → Result Message ReadFault → Type 0
 AnswersMalformedHead all (Ok found) = ⊥
-AnswersMalformedHead all (Err Malformed) = ⊤
+AnswersMalformedHead all (Err (Malformed is_head)) = ⊤
 AnswersMalformedHead all (Err (HostMissingOrRepeated is_head)) = ⊥
 AnswersMalformedHead all (Err (LengthMissing is_head)) = ⊥
 AnswersMalformedHead all (Err (BodyTooLong is_head)) = ⊥
-AnswersMalformedHead all (Err HeadTooLong) =
+AnswersMalformedHead all (Err (HeadTooLong is_head)) =
     (front last : List ℕ) × (all ≡ front ++ last) × Exceeds response_form field_limit last
 AnswersMalformedHead all (Err (TransferCoding is_head)) = ⊥
 AnswersMalformedHead all (Err (Expectation is_head)) = ⊥
@@ -114,7 +115,7 @@ FindsMalformedResponse old r =
 -- the results that malformed chunks may have: they may be beyond a limit first
 abbrev pub AnswersMalformedBody : Result Message ReadFault → Type 0
 AnswersMalformedBody (Ok found) = ⊥
-AnswersMalformedBody (Err fault) = (fault ≡ Malformed) ⊎ ((fault ≡ BodyTooLong false) ⊎ IsStreamFault fault)
+AnswersMalformedBody (Err fault) = (fault ≡ Malformed false) ⊎ ((fault ≡ BodyTooLong false) ⊎ IsStreamFault fault)
 
 -- bytes that no further bytes complete to a body in chunks are malformed
 abbrev pub FindsMalformedBody : Option (List ℕ) → Result Message ReadFault → Type 0
@@ -123,7 +124,7 @@ FindsMalformedBody old r =
 
 -- an interim response for which there is no room is malformed
 abbrev pub FindsInterims : Option (List ℕ) → Result Message ReadFault → Type 0
-FindsInterims old r = HasFront (λ room bytes. (room ≡ 0) × IsInterim bytes) old → Answers Malformed r
+FindsInterims old r = HasFront (λ room bytes. (room ≡ 0) × IsInterim bytes) old → Answers (Malformed false) r
 
 -- no proper prefix of a response is a response, and bytes are at most one response
 abbrev pub ResponsesAreApart : Type 0

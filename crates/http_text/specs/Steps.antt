@@ -31,11 +31,11 @@ EndsTurns old new after fault = new.failures ≡ old.failures
 
 -- no bytes came: the reader is at its end, a read failed, or no turn was left
 abbrev pub GivesNone : Option (List ℕ) → Option (List ℕ) → ReadFault → Type 0
-GivesNone old new Malformed = ⊥
+GivesNone old new (Malformed is_head) = ⊥
 GivesNone old new (HostMissingOrRepeated is_head) = ⊥
 GivesNone old new (LengthMissing is_head) = ⊥
 GivesNone old new (BodyTooLong is_head) = ⊥
-GivesNone old new HeadTooLong = ⊥
+GivesNone old new (HeadTooLong is_head) = ⊥
 GivesNone old new (TransferCoding is_head) = ⊥
 GivesNone old new (Expectation is_head) = ⊥
 GivesNone old new EndedEarly = Keeps old new × IsAtEnd new
@@ -58,13 +58,15 @@ CutsBody old new count TurnsExhausted = (bytes : List ℕ) × Consumes old new b
 CutsBody old new count fault = ⊥
 
 module _ (F : Form) where
-  -- what a parse refuses
+  -- what a parse refuses, and whether its method is HEAD
   abbrev pub RefusesHead : List ℕ → ReadFault → Type 0
-  RefusesHead bytes Malformed = NeverHas F bytes
+  RefusesHead bytes (Malformed is_head) = NeverHas F bytes × (is_head ≡ F.has_method_head bytes)
   RefusesHead bytes (HostMissingOrRepeated is_head) = ⊥
   RefusesHead bytes (LengthMissing is_head) = ⊥
   RefusesHead bytes (BodyTooLong is_head) = ⊥
-  RefusesHead bytes HeadTooLong = IsHeadAtLimit F bytes ⊎ (Exceeds F field_limit bytes × Overflows F field_limit bytes)
+  RefusesHead bytes (HeadTooLong is_head) =
+      (IsHeadAtLimit F bytes ⊎ (Exceeds F field_limit bytes × Overflows F field_limit bytes))
+      × (is_head ≡ F.has_method_head bytes)
   RefusesHead bytes (TransferCoding is_head) = ⊥
   RefusesHead bytes (Expectation is_head) = ⊥
   RefusesHead bytes EndedEarly = ⊥

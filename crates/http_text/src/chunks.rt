@@ -76,7 +76,7 @@ fn read_chunks<R: Read>(
             }
             Err(_) if count == 1 => {
                 reader.take(1);
-                return Err(ReadFault::Malformed);
+                return Err(ReadFault::Malformed { is_head: false });
             }
             Err(_) => most = 1,
         }
@@ -108,7 +108,7 @@ fn read_trailers<R: Read>(
             return Err(ReadFault::BodyTooLong { is_head: false });
         }
         if place == TrailerPlace::Malformed {
-            return Err(ReadFault::Malformed);
+            return Err(ReadFault::Malformed { is_head: false });
         }
         room -= 1;
     }

@@ -8,15 +8,16 @@ use std::{error, fmt};
 pub enum ReadFault {
     /// No further bytes can complete a head or a body in chunks, or `Content-Length` is repeated or isn't 1 to 18
     /// digits. Of a response also: its end isn't stated, or it is an interim one too many.
-    Malformed,
-    /// An HTTP/1.1 request without `Host`, or any request with two (RFC 9112, section 3.2).
+    Malformed { is_head: bool },
+    /// An HTTP/1.1 request without `Host`, or any request with two, or with one that isn't a host (RFC 9112, section
+    /// 3.2).
     HostMissingOrRepeated { is_head: bool },
     /// A POST or PUT without `Content-Length`.
     LengthMissing { is_head: bool },
     /// A `Content-Length` above 32,768 in a request, or above 8,388,608 in a response; or chunks beyond a limit.
     BodyTooLong { is_head: bool },
     /// 16,384 bytes hold no whole head, or there are more than 64 field lines.
-    HeadTooLong,
+    HeadTooLong { is_head: bool },
     /// A request has a `Transfer-Encoding`.
     TransferCoding { is_head: bool },
     /// There is an `Expect`.
@@ -39,11 +40,11 @@ impl fmt::Display for ReadFault {
 
     fn fmt<W: fmt::Write>(&self, f: &mut fmt::Formatter<W>) -> fmt::Result {
         f.write_str(match self {
-            ReadFault::Malformed => "H1",
+            ReadFault::Malformed { .. } => "H1",
             ReadFault::HostMissingOrRepeated { .. } => "H2",
             ReadFault::LengthMissing { .. } => "H3",
             ReadFault::BodyTooLong { .. } => "H4",
-            ReadFault::HeadTooLong => "H5",
+            ReadFault::HeadTooLong { .. } => "H5",
             ReadFault::TransferCoding { .. } => "H6",
             ReadFault::Expectation { .. } => "H7",
             ReadFault::EndedEarly => "H10",

@@ -2,7 +2,7 @@
 ghost use Rattle.std.specs.Prelude.{◌≡◌, Some, None, if◌then◌else◌, codes};
 ghost use Rattle.std.specs.Str.Parse.{digits_value};
 ghost use Rattle.http_text.specs.Message.{is_length, length_of, minor_of, values};
-ghost use Rattle.http_text.specs.Judging.{readable_length, refused_where, is_head, has_body, is_host_wrong, is_any, length_wanted, judge_head, codings, is_chunked_alone, is_bodiless, is_interim, is_no_status, has_chunks, response_length, judge_response};
+ghost use Rattle.http_text.specs.Judging.{readable_length, refused_where, is_head, has_method_head, has_body, is_host, is_host_wrong, is_any, length_wanted, judge_head, codings, is_chunked_alone, is_bodiless, is_interim, is_no_status, has_chunks, response_length, judge_response};
 
 use crate::fault::ReadFault;
 use crate::incoming::Incoming;
@@ -19,7 +19,7 @@ pub(crate) fn judge_request(message: &Incoming) -> Result<u64, ReadFault>
     let host_fault = ReadFault::HostMissingOrRepeated { is_head };
     let coding_fault = ReadFault::TransferCoding { is_head };
     let expectation_fault = ReadFault::Expectation { is_head };
-    let length = stated_length(message)?;
+    let length = stated_length(message, is_head)?;
     refuse_where(is_host_wrong(message), host_fault)?;
     refuse_where(has_field(message, "transfer-encoding"), coding_fault)?;
     refuse_where(has_field(message, "expect"), expectation_fault)?;
@@ -32,9 +32,10 @@ pub(crate) fn judge_response(message: &Incoming) -> Result<u64, ReadFault>
 {
     let is_chunked = is_chunked_alone(message);
     let is_coded = has_field(message, "transfer-encoding");
-    refuse_where(is_no_status(message.status()), ReadFault::Malformed)?;
-    refuse_where(is_coded && !is_chunked, ReadFault::Malformed)?;
-    let length = stated_length(message)?;
+    let malformed = ReadFault::Malformed { is_head: false };
+    refuse_where(is_no_status(message.status()), malformed)?;
+    refuse_where(is_coded && !is_chunked, malformed)?;
+    let length = stated_length(message, false)?;
     response_length(is_bodiless(message.status()), is_chunked, length)
 }
 
@@ -87,9 +88,9 @@ fn response_length(
 {
     match length {
         None if is_chunked => Ok(0),
-        Some(_) if is_chunked => Err(ReadFault::Malformed),
+        Some(_) if is_chunked => Err(ReadFault::Malformed { is_head: false }),
         _ if is_bodiless => Ok(0),
-        None => Err(ReadFault::Malformed),
+        None => Err(ReadFault::Malformed { is_head: false }),
         Some(length) if length > RESPONSE_BODY_LIMIT => {
             Err(ReadFault::BodyTooLong { is_head: false })
         }
@@ -110,19 +111,26 @@ fn has_body(message: &Incoming) -> bool
     message.method() == b"POST".as_slice() || message.method() == b"PUT".as_slice()
 }
 
-fn stated_length(message: &Incoming) -> Result<Option<u64>, ReadFault>
-    ensures { result ≡ readable_length (length_of message.now.head) }
+/// Whether a request that begins with these bytes has the method HEAD. White space before it is passed over.
+pub(crate) fn has_method_head(bytes: &[u8]) -> bool
+    ensures { result ≡ has_method_head bytes.now }
+{
+    bytes.trim_ascii_start().starts_with(b"HEAD ")
+}
+
+fn stated_length(message: &Incoming, is_head: bool) -> Result<Option<u64>, ReadFault>
+    ensures { result ≡ readable_length is_head (length_of message.now.head) }
 {
     let mut values = message.fields("content-length");
     let Some(text) = values.next() else {
         return Ok(None);
     };
     if values.next().is_some() {
-        return Err(ReadFault::Malformed);
+        return Err(ReadFault::Malformed { is_head });
     }
     match read_length(text) {
         Some(length) => Ok(Some(length)),
-        None => Err(ReadFault::Malformed),
+        None => Err(ReadFault::Malformed { is_head }),
     }
 }
 
@@ -148,10 +156,28 @@ fn is_host_wrong(message: &Incoming) -> bool
         (values (codes "host") message.now.head.fields) }
 {
     let mut hosts = message.fields("host");
-    if hosts.next().is_none() {
-        return message.minor_version() == 1;
+    match (hosts.next(), hosts.next()) {
+        (None, _) => message.minor_version() == 1,
+        (Some(host), None) => !is_host(host),
+        (Some(_), Some(_)) => true,
     }
-    hosts.next().is_some()
+}
+
+/// Whether a text has only bytes that a host and a port may have.
+fn is_host(text: &[u8]) -> bool
+    ensures { result ≡ is_host text.now }
+{
+    text.iter().all(|b| {
+        *b == b'!'
+            || (*b >= b'$' && *b <= b'.')
+            || (*b >= b'0' && *b <= b';')
+            || *b == b'='
+            || (*b >= b'A' && *b <= b'[')
+            || *b == b']'
+            || *b == b'_'
+            || (*b >= b'a' && *b <= b'z')
+            || *b == b'~'
+    })
 }
 
 fn has_field(message: &Incoming, name: &str) -> bool

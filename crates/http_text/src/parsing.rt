@@ -10,7 +10,7 @@ ghost use Rattle.http_text.specs.Steps.{IsFirstRefusal, RefusesHead, most_halvin
 use crate::counts::count;
 use crate::fault::ReadFault;
 use crate::incoming::Incoming;
-use crate::judge::{judge_request, judge_response};
+use crate::judge::{has_method_head, judge_request, judge_response};
 use crate::limits::HEAD_LIMIT;
 use httparse::spans::{
     HeaderSpan, RequestSpans, ResponseSpans, Span, parse_request, parse_response,
@@ -131,9 +131,14 @@ fn parse_request_head(bytes: &[u8], fields: &mut [HeaderSpan]) -> Parse
     match parse_request(bytes, fields) {
         Ok(Status::Complete(head)) => Parse::Whole(of_request(head)),
         Ok(Status::Partial) if bytes.len() < HEAD_LIMIT => Parse::Part,
-        Ok(Status::Partial) => Parse::Refused(ReadFault::HeadTooLong),
-        Err(Error::TooManyHeaders) => Parse::Refused(ReadFault::HeadTooLong),
-        Err(_) => Parse::Refused(ReadFault::Malformed),
+        Ok(Status::Partial) | Err(Error::TooManyHeaders) => {
+            let is_head = has_method_head(bytes);
+            Parse::Refused(ReadFault::HeadTooLong { is_head })
+        }
+        Err(_) => {
+            let is_head = has_method_head(bytes);
+            Parse::Refused(ReadFault::Malformed { is_head })
+        }
     }
 }
 
@@ -145,9 +150,9 @@ fn parse_response_head(bytes: &[u8], fields: &mut [HeaderSpan]) -> Parse
     match parse_response(bytes, fields) {
         Ok(Status::Complete(head)) => Parse::Whole(of_response(head)),
         Ok(Status::Partial) if bytes.len() < HEAD_LIMIT => Parse::Part,
-        Ok(Status::Partial) => Parse::Refused(ReadFault::HeadTooLong),
-        Err(Error::TooManyHeaders) => Parse::Refused(ReadFault::HeadTooLong),
-        Err(_) => Parse::Refused(ReadFault::Malformed),
+        Ok(Status::Partial) => Parse::Refused(ReadFault::HeadTooLong { is_head: false }),
+        Err(Error::TooManyHeaders) => Parse::Refused(ReadFault::HeadTooLong { is_head: false }),
+        Err(_) => Parse::Refused(ReadFault::Malformed { is_head: false }),
     }
 }
 

@@ -65,7 +65,7 @@ fn read_within<R: Read>(
         return Ok(message);
     }
     if room == 0 {
-        return Err(ReadFault::Malformed);
+        return Err(ReadFault::Malformed { is_head: false });
     }
     read_within(alloc, reader, room - 1, turns)
 }
@@ -133,11 +133,11 @@ fn is_of_stream(fault: ReadFault) -> bool
 {
     match fault {
         ReadFault::ReadFailed | ReadFault::OutOfMemory | ReadFault::TurnsExhausted => true,
-        ReadFault::Malformed
+        ReadFault::Malformed { .. }
         | ReadFault::HostMissingOrRepeated { .. }
         | ReadFault::LengthMissing { .. }
         | ReadFault::BodyTooLong { .. }
-        | ReadFault::HeadTooLong
+        | ReadFault::HeadTooLong { .. }
         | ReadFault::TransferCoding { .. }
         | ReadFault::Expectation { .. }
         | ReadFault::EndedEarly => false,

@@ -140,11 +140,11 @@ module _ (base : List ℕ) (replies : List typed.Reply) (request : Request) (out
     silent none = silence (subst (λ (r : Option ReplyRecord). IsPrefixOf out (reply_text r)) none part)
 
     reacted : (fault : ReadFault) → RepliesTo base (reaction_to fault) reply → Says base replies request out
-    reacted reads.Malformed is = refuses false refusals.Malformed (other_by refusals.Malformed (λ e. absurd (omega (arith, e))) (λ e. absurd (omega (arith, e)))) is
+    reacted (reads.Malformed x) is = refuses x refusals.Malformed (other_by refusals.Malformed (λ e. absurd (omega (arith, e))) (λ e. absurd (omega (arith, e)))) is
     reacted (reads.HostMissingOrRepeated x) is = refuses x refusals.Host (other_by refusals.Host (λ e. absurd (omega (arith, e))) (λ e. absurd (omega (arith, e)))) is
     reacted (reads.LengthMissing x) is = refuses x refusals.LengthMissing (other_by refusals.LengthMissing (λ e. absurd (omega (arith, e))) (λ e. absurd (omega (arith, e)))) is
     reacted (reads.BodyTooLong x) is = refuses x refusals.BodyTooLong (other_by refusals.BodyTooLong (λ e. absurd (omega (arith, e))) (λ e. absurd (omega (arith, e)))) is
-    reacted reads.HeadTooLong is = refuses false refusals.HeadTooLong (other_by refusals.HeadTooLong (λ e. absurd (omega (arith, e))) (λ e. absurd (omega (arith, e)))) is
+    reacted (reads.HeadTooLong x) is = refuses x refusals.HeadTooLong (other_by refusals.HeadTooLong (λ e. absurd (omega (arith, e))) (λ e. absurd (omega (arith, e)))) is
     reacted (reads.TransferCoding x) is = refuses x refusals.TransferCoding (other_by refusals.TransferCoding (λ e. absurd (omega (arith, e))) (λ e. absurd (omega (arith, e)))) is
     reacted (reads.Expectation x) is = refuses x refusals.Expectation (other_by refusals.Expectation (λ e. absurd (omega (arith, e))) (λ e. absurd (omega (arith, e)))) is
     reacted reads.EndedEarly is = silent is

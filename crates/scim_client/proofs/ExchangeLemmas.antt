@@ -1,5 +1,5 @@
 -- From what was read, and its result, to what an exchange promises.
-use Rattle.std.proofs.Common.{◌≡◌, ℕ, zero, suc, ◌⊎◌, inl, inr, List, ◌++◌, Option, Some, Result, Ok, Err, refl, ap, sym, ◌∙◌, subst}
+use Rattle.std.proofs.Common.{◌≡◌, ℕ, zero, suc, ◌⊎◌, inl, inr, false, List, ◌++◌, Option, Some, Result, Ok, Err, refl, ap, sym, ◌∙◌, subst}
 use Rattle.scim_message.specs.declared.answers.BodyFault.TheVariants as bodies
 use Rattle.scim_message.specs.declared.messages.Answer.{Answer}
 use Rattle.scim_message.specs.declared.messages.Request.{Request}
@@ -62,11 +62,11 @@ reads_none request reading text old new (NoAnswer answers.OutOfMemory) sent = in
 -- ---- a reply
 
 reply_at_fault : (fault : ReadFault) → IsReply (Err (fault_of fault))
-reply_at_fault faults.Malformed = tt
+reply_at_fault (faults.Malformed is_head) = tt
 reply_at_fault (faults.HostMissingOrRepeated is_head) = tt
 reply_at_fault (faults.LengthMissing is_head) = tt
 reply_at_fault (faults.BodyTooLong is_head) = tt
-reply_at_fault faults.HeadTooLong = tt
+reply_at_fault (faults.HeadTooLong is_head) = tt
 reply_at_fault (faults.TransferCoding is_head) = tt
 reply_at_fault (faults.Expectation is_head) = tt
 reply_at_fault faults.EndedEarly = tt
@@ -88,11 +88,11 @@ is_reply request (Ok m) (Err (NoAnswer fault)) h = tt
 
 module _ (request : Request) (old new : Reading) where
   reads_at_fault : (fault : ReadFault) → StopsReading old new fault → Reads request old new (Err (fault_of fault))
-  reads_at_fault faults.Malformed h = (faults.Malformed, refl, h)
+  reads_at_fault (faults.Malformed is_head) h = (faults.Malformed is_head, refl, h)
   reads_at_fault (faults.HostMissingOrRepeated is_head) h = (faults.HostMissingOrRepeated is_head, refl, h)
   reads_at_fault (faults.LengthMissing is_head) h = (faults.LengthMissing is_head, refl, h)
   reads_at_fault (faults.BodyTooLong is_head) h = (faults.BodyTooLong is_head, refl, h)
-  reads_at_fault faults.HeadTooLong h = (faults.HeadTooLong, refl, h)
+  reads_at_fault (faults.HeadTooLong is_head) h = (faults.HeadTooLong is_head, refl, h)
   reads_at_fault (faults.TransferCoding is_head) h = (faults.TransferCoding is_head, refl, h)
   reads_at_fault (faults.Expectation is_head) h = (faults.Expectation is_head, refl, h)
   reads_at_fault faults.EndedEarly h = h
@@ -119,11 +119,11 @@ module _ (request : Request) (old new : Reading) where
 module _ (request : Request) where
   -- a fault of the stream hinders
   hinders : (fault : ReadFault) → IsStreamFault fault → (result : Result Answer ExchangeFault) → ComesOf request (Err fault) result → IsHindered result
-  hinders faults.Malformed s result h = absurd s
+  hinders (faults.Malformed is_head) s result h = absurd s
   hinders (faults.HostMissingOrRepeated is_head) s result h = absurd s
   hinders (faults.LengthMissing is_head) s result h = absurd s
   hinders (faults.BodyTooLong is_head) s result h = absurd s
-  hinders faults.HeadTooLong s result h = absurd s
+  hinders (faults.HeadTooLong is_head) s result h = absurd s
   hinders (faults.TransferCoding is_head) s result h = absurd s
   hinders (faults.Expectation is_head) s result h = absurd s
   hinders faults.EndedEarly s result h = absurd s
@@ -244,11 +244,11 @@ module _ (request : Request) where
       → (result : Result Answer ExchangeFault) → ComesOf request r result
       → (result ≡ Err (NoAnswer NotOneResponse)) ⊎ IsHindered result
   malformed all (Ok m) a result h = absurd a
-  malformed all (Err faults.Malformed) a result h = inl h
+  malformed all (Err (faults.Malformed is_head)) a result h = inl h
   malformed all (Err (faults.HostMissingOrRepeated is_head)) a result h = absurd a
   malformed all (Err (faults.LengthMissing is_head)) a result h = absurd a
   malformed all (Err (faults.BodyTooLong is_head)) a result h = absurd a
-  malformed all (Err faults.HeadTooLong) a result h = inl h
+  malformed all (Err (faults.HeadTooLong is_head)) a result h = inl h
   malformed all (Err (faults.TransferCoding is_head)) a result h = absurd a
   malformed all (Err (faults.Expectation is_head)) a result h = absurd a
   malformed all (Err faults.EndedEarly) a result h = absurd a
@@ -266,11 +266,11 @@ module _ (request : Request) where
   -- a head that is refused makes no response
   refused_head : (fault : ReadFault) → IsHeadFault fault → (r : Result Message ReadFault) → heads.Answers fault r → (result : Result Answer ExchangeFault) → ComesOf request r result
       → (result ≡ Err (NoAnswer NotOneResponse)) ⊎ IsHindered result
-  refused_head faults.Malformed k r a result h = meets faults.Malformed r a result h
+  refused_head (faults.Malformed is_head) k r a result h = meets (faults.Malformed is_head) r a result h
   refused_head (faults.HostMissingOrRepeated is_head) k r a result h = meets (faults.HostMissingOrRepeated is_head) r a result h
   refused_head (faults.LengthMissing is_head) k r a result h = meets (faults.LengthMissing is_head) r a result h
   refused_head (faults.BodyTooLong is_head) k r a result h = meets (faults.BodyTooLong is_head) r a result h
-  refused_head faults.HeadTooLong k r a result h = meets faults.HeadTooLong r a result h
+  refused_head (faults.HeadTooLong is_head) k r a result h = meets (faults.HeadTooLong is_head) r a result h
   refused_head (faults.TransferCoding is_head) k r a result h = meets (faults.TransferCoding is_head) r a result h
   refused_head (faults.Expectation is_head) k r a result h = meets (faults.Expectation is_head) r a result h
   refused_head faults.EndedEarly k r a result h = absurd k
@@ -297,10 +297,10 @@ module _ (request : Request) where
     without = λ bytes rest at none. without old.remaining new.remaining r read.found result h (without_stops result none) bytes rest at;
     part = λ bytes at part. meets faults.EndedEarly r (read.ended bytes at part) result h;
     refused_head = λ fault front. refused_head fault (fault_of_head interim_limit front.0 fault front.3) r (read.refused_head fault front) result h;
-    long = λ front. meets faults.HeadTooLong r (read.long front) result h;
+    long = λ front. let long = read.long front in meets (faults.HeadTooLong long.0) r long.1 result h;
     malformed = λ front. malformed (front.0 ++ front.1) r (read.malformed front.0 front.1 front.2 front.3) result h;
     malformed_body = λ front. malformed_body r (read.malformed_body front) result h;
-    interims = λ front. meets faults.Malformed r (read.interims front) result h;
+    interims = λ front. meets (faults.Malformed false) r (read.interims front) result h;
   }
 
   -- if nothing was sent or read

@@ -1,6 +1,6 @@
 -- The field lines of a request are such as a head may have, and each is found by its name.
 use Rattle.std.proofs.Common.{◌≡◌, ℕ, ◌^◌, ◌<◌, ◌≤◌, Bool, true, false, List, [], ◌∷◌, ◌++◌, ◌&&◌, length, Option, Some, None, Result, Ok, refl, ap, sym, subst, ◌∙◌, arith, inl, inr, nat_lt, append_assoc, append-nil}
-use Rattle.std.specs.Prelude.{All, IfSome, nat_le, codes, option_to_list, reverse}
+use Rattle.std.specs.Prelude.{All, IfSome, nat_le, not, codes, option_to_list, reverse}
 use Rattle.std.specs.Char.{is_ascii_digit}
 use Rattle.std.specs.Fmt.{decimal}
 use Rattle.std.specs.List.{AllByRecursion, flat_map, list_all}
@@ -24,7 +24,7 @@ use Rattle.scim_version.proofs.Spelling.{condition-from_Spells}
 use Rattle.http_text.specs.Message.{NamedValue, values, Length, absent, stated, length_in, is_length, body_limit, field_limit}
 use Rattle.http_text.specs.declared.fault.ReadFault.{ReadFault}
 use Rattle.http_text.specs.declared.fault.ReadFault.TheVariants.{HostMissingOrRepeated, TransferCoding, Expectation}
-use Rattle.http_text.specs.Judging.{◌>>=◌, refused_where, readable_length, length_wanted, is_any, is_host_wrong}
+use Rattle.http_text.specs.Judging.{◌>>=◌, refused_where, readable_length, length_wanted, is_any, is_host_byte, is_host_wrong}
 use Rattle.http_text.specs.Response.{line_with, written_lines}
 use Rattle.http_text.specs.Texts.{IsFieldLine}
 use Rattle.http_text.proofs.TextLemmas.{IsFieldLine-visible}
@@ -52,6 +52,9 @@ together test a b x y = list_all-append test a b ∙ both (list_all test a) (lis
 
 authority_visible : (b : ℕ) → is_authority_byte b ≡ true → is_uri_byte b ≡ true
 authority_visible b h = grind (arith, nat_tests)
+
+authority_in_host : (b : ℕ) → is_authority_byte b ≡ true → is_host_byte b ≡ true
+authority_in_host b h = grind (arith, nat_tests)
 
 tag_is_value : (b : ℕ) → is_tag_byte b ≡ true → is_value_byte b ≡ true
 tag_is_value b h = grind (arith, nat_tests)
@@ -254,16 +257,20 @@ stated_decimal n small =
 
 abbrev pub judged : (has_body : Bool) → Length → List (List ℕ) → List (List ℕ) → List (List ℕ) → Result ℕ ReadFault
 judged has_body l host coding expect =
-    readable_length l >>= (λ length_. refused_where (is_host_wrong 1 host) (HostMissingOrRepeated false)
+    readable_length false l >>= (λ length_. refused_where (is_host_wrong 1 host) (HostMissingOrRepeated false)
     >>= (λ _. refused_where (is_any coding) (TransferCoding false) >>= (λ _. refused_where (is_any expect) (Expectation false)
     >>= (λ _. length_wanted has_body false length_))))
 
-pub judged_body : (n : ℕ) (host : List ℕ) (l : Length) (hosts coding expect : List (List ℕ)) → n ≤ body_limit → l ≡ stated n → hosts ≡ host ∷ [] → coding ≡ [] → expect ≡ []
+-- a host and port of a base is a host
+pub host_is_right : (authority : List ℕ) → list_all is_authority_byte authority ≡ true → is_host_wrong 1 (authority ∷ []) ≡ false
+host_is_right authority lawful = ap not (weaker is_authority_byte is_host_byte authority_in_host authority lawful)
+
+pub judged_body : (n : ℕ) (l : Length) (hosts coding expect : List (List ℕ)) → n ≤ body_limit → l ≡ stated n → is_host_wrong 1 hosts ≡ false → coding ≡ [] → expect ≡ []
     → judged true l hosts coding expect ≡ Ok n
-judged_body n host l hosts coding expect small is one none no_more =
+judged_body n l hosts coding expect small is one none no_more =
     let fits : nat_lt body_limit n ≡ false = grind (arith, nat_tests) in
     rw (is, one, none, no_more, fits) refl
 
-pub judged_bodiless : (host : List ℕ) (l : Length) (hosts coding expect : List (List ℕ)) → l ≡ absent → hosts ≡ host ∷ [] → coding ≡ [] → expect ≡ []
+pub judged_bodiless : (l : Length) (hosts coding expect : List (List ℕ)) → l ≡ absent → is_host_wrong 1 hosts ≡ false → coding ≡ [] → expect ≡ []
     → judged false l hosts coding expect ≡ Ok 0
-judged_bodiless host l hosts coding expect is one none no_more = rw (is, one, none, no_more) refl
+judged_bodiless l hosts coding expect is one none no_more = rw (is, one, none, no_more) refl

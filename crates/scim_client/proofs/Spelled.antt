@@ -27,7 +27,7 @@ use Rattle.scim_message.specs.declared.messages.Request.TheVariants.{Create, Ret
 use Rattle.scim_message.specs.declared.refusals.Refusal.{Refusal}
 use Rattle.scim_message.specs.declared.refusals.Refusal.TheVariants.{MediaType}
 use Rattle.http_text.specs.Forms.{IsRequestMessage, IsAccepted}
-use Rattle.http_text.specs.Judging.{judge_head}
+use Rattle.http_text.specs.Judging.{is_host_wrong, judge_head}
 use Rattle.http_text.specs.Message.{NamedValue, Head, Message, request_line, values, length_in, stated, absent, body_length, head_limit, body_limit}
 use Rattle.http_text.specs.Response.{written_lines}
 use Rattle.http_text.specs.Texts.{IsTarget, request_text}
@@ -40,7 +40,7 @@ use Rattle.scim_http.proofs.LocationLaws.{locations_are_routed}
 use Rattle.scim_client.specs.Requests.{with_query, query_text, start_value, condition_value, content_text, lines_of, method_text, body_text, request_lines, collection_in, target_text, text_at}
 use Rattle.scim_client.specs.ServicePaths.{host_of, service_path_of}
 use Rattle.scim_client.specs.Spelling.{IsIdText, IsSentContent, IsFilterText, KeepsFilterLimits, IsShortNumber, HasLawfulParts, IsWritable, KeepsLimitsAt, SpellsRequest, RequestsAreSpelled}
-use Rattle.scim_client.proofs.Lines.{IsSentCondition, host_value, decimal_value, condition_is_value, condition_found, lines_are, finds, stated_decimal, judged, judged_body, judged_bodiless}
+use Rattle.scim_client.proofs.Lines.{IsSentCondition, host_is_right, host_value, decimal_value, condition_is_value, condition_found, lines_are, finds, stated_decimal, judged, judged_body, judged_bodiless}
 use Rattle.scim_client.proofs.Queries.{IsByte, IsTextOf, reads, start_read, count_read}
 use Rattle.scim_client.proofs.ServicePathLemmas.{base_host}
 use Rattle.scim_client.proofs.Utf8Bytes.{utf8_bytes}
@@ -74,7 +74,7 @@ sent_with_body host method target body first second is at judges lawful one two 
     let all = lines_are host long (condition_value first) (condition_value second) (host_value host lawful.bytes) (decimal_value n (omega (arith, small))) (condition_is_value first one) (condition_is_value second two) in
     let l : length_in (values (codes "content-length") fields) ≡ stated n = ap length_in found.long ∙ stated_decimal n small in (
       texts.texts_are_read.request method target fields body is at all size found.few (sym (ap body_length l)),
-      (n, judges fields ∙ judged_body n host (length_in (values (codes "content-length") fields)) (values (codes "host") fields) (values (codes "transfer-encoding") fields) (values (codes "expect") fields) small l found.at found.coding found.expect),
+      (n, judges fields ∙ judged_body n (length_in (values (codes "content-length") fields)) (values (codes "host") fields) (values (codes "transfer-encoding") fields) (values (codes "expect") fields) small l (ap (is_host_wrong 1) found.at ∙ host_is_right host lawful.bytes) found.coding found.expect),
     )
 
 sent_bodiless : (host method target : List ℕ) (first second : Condition) → IsToken method → IsTarget target → Judges false method target → IsAuthority host
@@ -88,7 +88,7 @@ sent_bodiless host method target first second is at judges lawful one two size =
     let all = lines_are host None (condition_value first) (condition_value second) (host_value host lawful.bytes) tt (condition_is_value first one) (condition_is_value second two) in
     let l : length_in (values (codes "content-length") fields) ≡ absent = ap length_in found.long in (
       texts.texts_are_read.request method target fields [] is at all size found.few (sym (ap body_length l)),
-      (0, judges fields ∙ judged_bodiless host (length_in (values (codes "content-length") fields)) (values (codes "host") fields) (values (codes "transfer-encoding") fields) (values (codes "expect") fields) l found.at found.coding found.expect),
+      (0, judges fields ∙ judged_bodiless (length_in (values (codes "content-length") fields)) (values (codes "host") fields) (values (codes "transfer-encoding") fields) (values (codes "expect") fields) l (ap (is_host_wrong 1) found.at ∙ host_is_right host lawful.bytes) found.coding found.expect),
     )
 
 token : (name : List ℕ) → 0 < length name → list_all is_token_byte name ≡ true → IsToken name

@@ -53,11 +53,11 @@ SpellsSent base request old new =
 
 -- the fault of an exchange for a fault of reading a response
 abbrev pub fault_of : ReadFault → ExchangeFault
-fault_of faults.Malformed = NoAnswer NotOneResponse
+fault_of (faults.Malformed is_head) = NoAnswer NotOneResponse
 fault_of (faults.HostMissingOrRepeated is_head) = NoAnswer NotOneResponse
 fault_of (faults.LengthMissing is_head) = NoAnswer NotOneResponse
 fault_of (faults.BodyTooLong is_head) = NoAnswer NotOneResponse
-fault_of faults.HeadTooLong = NoAnswer NotOneResponse
+fault_of (faults.HeadTooLong is_head) = NoAnswer NotOneResponse
 fault_of (faults.TransferCoding is_head) = NoAnswer NotOneResponse
 fault_of (faults.Expectation is_head) = NoAnswer NotOneResponse
 fault_of faults.EndedEarly = EndedEarly

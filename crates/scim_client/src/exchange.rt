@@ -155,11 +155,11 @@ fn fault_of(fault: ReadFault) -> ExchangeFault
         ReadFault::ReadFailed => ExchangeFault::ReadFailed,
         ReadFault::OutOfMemory => ExchangeFault::OutOfMemory,
         ReadFault::TurnsExhausted => ExchangeFault::TurnsExhausted,
-        ReadFault::Malformed
+        ReadFault::Malformed { .. }
         | ReadFault::HostMissingOrRepeated { .. }
         | ReadFault::LengthMissing { .. }
         | ReadFault::BodyTooLong { .. }
-        | ReadFault::HeadTooLong
+        | ReadFault::HeadTooLong { .. }
         | ReadFault::TransferCoding { .. }
         | ReadFault::Expectation { .. } => ExchangeFault::NoAnswer(AnswerFault::NotOneResponse),
     }

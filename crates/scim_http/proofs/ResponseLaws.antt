@@ -208,8 +208,8 @@ stated_decimal n small =
 
 abbrev judged : Length → Bool → Bool → List (List ℕ) → Result ℕ ReadFault
 judged l a b found =
-    refused_where a Malformed >>= (λ _. refused_where (is_any found && not (is_chunked_alone found)) Malformed
-    >>= (λ _. readable_length l >>= (λ length_. response_length b (is_chunked_alone found) length_)))
+    refused_where a (Malformed false) >>= (λ _. refused_where (is_any found && not (is_chunked_alone found)) (Malformed false)
+    >>= (λ _. readable_length false l >>= (λ length_. response_length b (is_chunked_alone found) length_)))
 
 -- a head with a stated length within the limit and an ordinary status is followed by that length
 accepted : (n status : ℕ) → n ≤ response_body_limit → 200 ≤ status → is_bodiless status ≡ false

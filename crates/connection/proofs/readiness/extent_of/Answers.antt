@@ -24,6 +24,6 @@ returns-in-Err-Malformed c =
     let bytes = c.args.bytes.now in
     let more : List ℕ = replicate body_limit 0 in
     let all : c.as_slice.result.now ≡ bytes ++ more = c.as_slice.ensures.value ∙ c.in-Ok.ensures in
-    no_body bytes more c.new-input.result.remaining c.read_request.new.reader.remaining c.in-Err-Malformed.field-0
+    no_body bytes more c.new-input.result.remaining c.read_request.new.reader.remaining c.in-Err-Malformed.field-0 _
     (ap (λ (input : Reading). input.remaining) c.new-input.ensures ∙ ap Some all)
     (omega (arith, length-replicate {A = ℕ} body_limit 0)) c.in-Err-Malformed.field-0-is c.in-Err-Malformed.ensures.found
