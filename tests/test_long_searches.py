@@ -5,10 +5,10 @@ import os
 import select
 import time
 
-from databases import make_store, user_resource, user_text
+from databases import group_text, make_store, user_resource, user_text
 from faults import Clock, Shim, build_shim
 from support import GIVEN_UP, ProgramTest, Provider, read_all, resource_id, wait_until
-from test_slow_clients import LIST, narrow_connection
+from test_slow_clients import LIST, narrow_connection, processor_seconds
 
 # So many rows, and so many parts of a filter, that a search takes a quarter of a second and more
 ROWS, PARTS = 100_000, 60
@@ -19,6 +19,11 @@ PAGES = 100
 FIND_FIRST = f"GET /v2/Users/{resource_id(1)} HTTP/1.1\r\nHost: h\r\n\r\n".encode()
 FILTER = "%20or%20".join(f"userName%20co%20%22nobody-{part}%22" for part in range(PARTS))
 SEARCH = f"GET /v2/Users?filter={FILTER} HTTP/1.1\r\nHost: h\r\n\r\n".encode()
+# As many groups as are read at once, each with as many members as a body has room for. A long filter takes about a second
+# for them; it takes this long until others are to be accepted
+MEMBERS, BEGUN = [f"{'x' * 55}-{member:04}" for member in range(400)], 0.1
+MEMBER_FILTER = "%20or%20".join(f"members%20co%20%22nobody-{part}%22" for part in range(52))
+MEMBER_SEARCH = f"GET /v2/Groups?filter={MEMBER_FILTER} HTTP/1.1\r\nHost: h\r\n\r\n".encode()
 # All groups, of which there are none, are a search too, and a quick one
 GROUPS = b"GET /v2/Groups HTTP/1.1\r\nHost: h\r\n\r\n"
 # The most bytes of memory that the requests of searches take that wait, and the most bytes of a head
@@ -72,6 +77,23 @@ class LongSearchTest(ProgramTest):
             self.assert_found_nothing(search)
             for stream in streams:
                 self.assertTrue(read_all(stream).startswith(b"HTTP/1.1 200"))
+            self.assert_reports(provider.ends(), 0)
+
+    def test_others_connect_while_a_page_of_large_groups_is_searched(self):
+        groups = [(number, 2, f"group-{number}", 1, group_text(f"group-{number}", MEMBERS))
+                  for number in range(1, LISTED + 1)]
+        store = make_store(self.folder / "groups.db", groups)
+        with Provider(2, "--store", store) as provider, provider.connect() as search:
+            before = processor_seconds(provider.pid)
+            search.sendall(MEMBER_SEARCH)
+            wait_until(lambda: processor_seconds(provider.pid) > before + BEGUN, "the search")
+            handles = len(os.listdir(f"/proc/{provider.pid}/fd"))
+            with provider.connect() as other:
+                other.sendall(FIND_FIRST)
+                wait_until(lambda: len(os.listdir(f"/proc/{provider.pid}/fd")) > handles, "a place for another")
+                self.assert_unanswered(search)
+                self.assert_found_nothing(search)
+                self.assertTrue(read_all(other).startswith(b"HTTP/1.1 404"))
             self.assert_reports(provider.ends(), 0)
 
     def test_an_answer_that_is_read_late_is_sent_meanwhile(self):

@@ -342,7 +342,7 @@ where
     ghost keeps_on = { λ _ _ _ _ _. tt };
 
     /// A search goes on, unless it has had its time. If the last turn of the others was a while ago, they have another.
-    fn after_page(&mut self) -> bool {
+    fn after_rows(&mut self) -> bool {
         self.is_stopped = false;
         let Ok(now) = Instant::now(self.clock) else {
             return true;

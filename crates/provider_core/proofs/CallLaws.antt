@@ -1,6 +1,6 @@
 -- Two calls one after the other.
 use Rattle.std.proofs.Common.{◌≡◌, ℕ, subst, ◌∙◌}
-use Rattle.std.specs.Prelude.{Result, Ok}
+use Rattle.std.specs.Prelude.{Result, Ok, Err, OnOk}
 use Rattle.provider_core.specs.Calls.{Reads}
 use Rattle.provider_core.specs.Stores.{CountsFaults}
 use Rattle.provider_core.specs.declared.registry.Registry.{Ghosts}
@@ -19,6 +19,23 @@ reads-on g {counts} {old} {middle} {new} {result} one two = record {
   stop = λ honest found holds. one.stop (two.honest honest) found (two.stop honest found holds);
   counted = counts-on counts (g.faults old) (g.faults middle) (g.faults new) result one.counted two.counted;
   unwritten = two.unwritten ∙ one.unwritten;
+}
+
+on-ok : {T F X : Type 0} (result : Result T F) → X → OnOk result X
+on-ok (Ok value) x = x
+on-ok (Err fault) x = tt
+
+-- a call that read and succeeded, and then something without the store
+pub reads-then : {R T U F G : Type 0} (g : Ghosts R) {first_counts : ℕ → ℕ → F → Type 0} {counts : ℕ → ℕ → G → Type 0} {old new : R} {value : T} {result : Result U G}
+    → Reads g first_counts old new (Ok value) → ((faults : ℕ) → CountsFaults counts faults faults result) → Reads g counts old new result
+reads-then g {counts} {old} {new} {result} reads after = record {
+  was = reads.was;
+  same = reads.same;
+  honest = reads.honest;
+  opened = λ honest. on-ok result (reads.opened honest);
+  stop = reads.stop;
+  counted = counts-on counts (g.faults old) (g.faults new) (g.faults new) result reads.counted (after (g.faults new));
+  unwritten = reads.unwritten;
 }
 
 -- a call that read and succeeded, with another value

@@ -1,10 +1,10 @@
 -- What is gathered of a search goes with the rows that are looked through.
-use Rattle.std.proofs.Common.{◌≡◌, ℕ, ◌+◌, ◌-◌, ◌^◌, suc, ◌≤◌, min, Bool, true, false, cond, List, [], ◌∷◌, ◌++◌, length, take, drop, refl, sym, ap, subst, ◌∙◌, arith}
+use Rattle.std.proofs.Common.{◌≡◌, ℕ, ◌+◌, ◌-◌, ◌^◌, suc, ◌≤◌, ◌<◌, min, Bool, true, false, cond, List, [], ◌∷◌, ◌++◌, length, take, drop, refl, sym, ap, subst, ◌∙◌, arith}
 use Rattle.std.specs.Prelude.{Option, Some, None, Ok, ℤ, map}
 use Rattle.std.specs.Option.{option_and_then, option_to_list}
-use Rattle.std.specs.List.{filter}
+use Rattle.std.specs.List.{filter, slice_index_or}
 use Rattle.std.proofs.Math.Seq.{take-add}
-use Rattle.std.proofs.lemmas.List.{append-nil, append_assoc, length-map, map-append, take_all, take_min}
+use Rattle.std.proofs.lemmas.List.{append-nil, append_assoc, length-map, map-append, take_all, take_min, take_more}
 use Rattle.std.proofs.lemmas.List.Elements.{filter-append}
 use Rattle.scim_key.specs.declared.records.Kind.{Kind}
 use Rattle.scim_key.specs.declared.records.RecordName.{RecordName}
@@ -94,6 +94,13 @@ past : (n m : ℕ) (xs : List StoredRecord) → length xs ≤ m → take (min n 
 past n m xs short =
     let same : min (min n m) (length xs) ≡ min n (length xs) = omega arith in
     sym (take_min (min n m) xs) ∙ ap (λ k. take k xs) same ∙ take_min n xs
+
+-- one row more
+pub goes-one : (kind : Kind) (wanted : Option Expression) (at : ℕ) (row : StoredRecord) (rows : List StoredRecord) (old middle new : Gathered) → at < length rows → row ≡ slice_index_or rows at row
+    → GoesThrough kind wanted (take at rows) old middle → GoesThrough kind wanted (row ∷ []) middle new → GoesThrough kind wanted (take (at + 1) rows) old new
+goes-one kind wanted at row rows old middle new there is before this =
+    let parts : take at rows ++ row ∷ [] ≡ take (at + 1) rows = ap (λ (r : StoredRecord). take at rows ++ r ∷ []) is ∙ sym (take_more rows at row there) in
+    subst (λ (part : List StoredRecord). GoesThrough kind wanted part old new) parts (goes-on kind wanted (take at rows) (row ∷ []) old middle new before this)
 
 -- some rows more
 pub goes-further : (kind : Kind) (wanted : Option Expression) (most all after more : ℕ) (rows : List StoredRecord) (old middle new : Gathered) → all ≤ most → length rows ≤ all

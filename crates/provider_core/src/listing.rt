@@ -90,7 +90,7 @@ fn find_places<R: Registry, M: Meanwhile>(
     let mut after = 0;
     while after < all {
         add_page(registry, after, &mut places)?;
-        let goes_on = meanwhile.after_page();
+        let goes_on = meanwhile.after_rows();
         if !goes_on {
             return Err(SearchFault::Stopped);
         }

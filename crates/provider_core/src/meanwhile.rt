@@ -15,8 +15,8 @@ pub trait Meanwhile {
     /// Whether it has last stopped a search.
     ghost stops: { Self → Bool };
 
-    /// A page of rows was read. It returns whether the search may go on.
-    fn after_page(&mut self) -> bool
+    /// Some rows were read or looked at. It returns whether the search may go on.
+    fn after_rows(&mut self) -> bool
         ensures keeps { keeps self.old self.new }
         ensures stops { result ≡ not (stops self.new) };
 
@@ -40,7 +40,7 @@ impl Meanwhile for Nothing {
 
     ghost keeps_on = { λ _ _ _ _ _. tt };
 
-    fn after_page(&mut self) -> bool {
+    fn after_rows(&mut self) -> bool {
         true
     }
 }

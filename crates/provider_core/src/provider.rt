@@ -362,33 +362,31 @@ impl<R: Registry> Provider<R> {
         let all = self.registry.count()?;
         let mut after = 0;
         while after < all {
-            self.gather_page(kind, filter, after, gathered)?;
-            let goes_on = meanwhile.after_page();
-            if !goes_on {
-                return Err(SearchFault::Stopped);
-            }
+            self.gather_page(kind, filter, after, gathered, meanwhile)?;
             after = after.saturating_add(ROWS_AT_ONCE);
         }
         Ok(())
     }
 
     /// Looks through some rows after the first `after`.
-    fn gather_page(
+    fn gather_page<M: Meanwhile>(
         &mut self,
         kind: Kind,
         filter: &Option<Filter>,
         after: u32,
         gathered: &mut Gathered,
-    ) -> Result<(), ProviderFault>
+        meanwhile: &mut M,
+    ) -> Result<(), SearchFault>
         ensures ok { R.is_faithful self.new
             → OnOk result
             (GoesThrough kind filter.now
             (take ROWS_AT_ONCE (drop after (R.rows self.old))) gathered.old gathered.new) }
-        ensures reads { Reads R.Registry CountsProviderFault self.old self.new result }
+        ensures reads { Reads R.Registry CountsSearchFault self.old self.new result }
+        ensures keeps { M.keeps meanwhile.old meanwhile.new }
+        ensures stops { StopsIf (M.stops meanwhile.old) (M.stops meanwhile.new) result }
     {
         let rows = self.registry.scan(after, ROWS_AT_ONCE as usize)?;
-        gathered.look_through(kind, filter, &rows)?;
-        Ok(())
+        gathered.look_through(kind, filter, &rows, meanwhile)
     }
 
     fn prepare_replace(

@@ -1,5 +1,5 @@
 //! What a search finds: the number of resources, and the page that is shown.
-ghost use Rattle.std.specs.Prelude.{◌≡◌, ◌∷◌, ◌++◌, [], IfOk, OnOk};
+ghost use Rattle.std.specs.Prelude.{◌≡◌, ℕ, ◌∷◌, ◌++◌, [], IfOk, OnOk};
 ghost use Rattle.std.specs.Option.{option_and_then};
 ghost use Rattle.scim_filter.specs.Names as names;
 ghost use Rattle.scim_resource.specs.Rows.{shown};
@@ -7,7 +7,10 @@ ghost use Rattle.scim_message.specs.declared.messages.Answer.TheVariants as answ
 ghost use Rattle.provider_core.specs.Searches as spec;
 ghost use Rattle.provider_core.specs.Gathering.{Adds, GoesThrough, IsPlace, gathered, listed};
 ghost use Rattle.provider_core.specs.Outcomes.{replied};
+ghost use Rattle.provider_core.specs.Stops.{CountsSearchFault, StopsIf};
+ghost use Rattle.provider_core.specs.Stores.{CountsFaults};
 
+use crate::meanwhile::{Meanwhile, SearchFault};
 use crate::outcomes::is_of_kind;
 use crate::pending::Pending;
 use crate::registry::ROWS_AT_ONCE;
@@ -79,17 +82,26 @@ impl Gathered {
         }
     }
 
-    /// Looks through rows for the ones of this type that the filter finds.
-    pub(crate) fn look_through(
+    /// Looks through rows for the ones of this type that the filter finds. Others may have a turn after each row: a
+    /// long filter takes milliseconds for a group with many members.
+    pub(crate) fn look_through<M: Meanwhile>(
         &mut self,
         kind: Kind,
         filter: &Option<Filter>,
         rows: &[Stored],
-    ) -> Result<(), AllocError>
-        ensures { OnOk result (GoesThrough kind filter.now rows.now self.old self.new) }
+        meanwhile: &mut M,
+    ) -> Result<(), SearchFault>
+        ensures through { OnOk result (GoesThrough kind filter.now rows.now self.old self.new) }
+        ensures counts { (faults : ℕ) → CountsFaults CountsSearchFault faults faults result }
+        ensures keeps { M.keeps meanwhile.old meanwhile.new }
+        ensures stops { StopsIf (M.stops meanwhile.old) (M.stops meanwhile.new) result }
     {
         for row in rows {
             self.look_at(kind, filter, row)?;
+            let goes_on = meanwhile.after_rows();
+            if !goes_on {
+                return Err(SearchFault::Stopped);
+            }
         }
         Ok(())
     }

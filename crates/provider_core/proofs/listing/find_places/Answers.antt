@@ -20,7 +20,7 @@ loop-after-preserved g c =
             subst (λ after. c.add_page.new.places ≡ places_of (take after rows)) (sym c.saturating_add-after.ensures)
             (finds-further (2 ^ 32 - 1) c.args.all c.loop-after.after ROWS_AT_ONCE rows c.loop-after.places c.add_page.new.places (omega arith) short (before.found earlier short) adds);
       },
-      g.met.M.Meanwhile.keeps_on _ _ _ c.loop-after.invariant.1 c.after_page-goes_on.ensures.keeps,
+      g.met.M.Meanwhile.keeps_on _ _ _ c.loop-after.invariant.1 c.after_rows-goes_on.ensures.keeps,
       search rules,
     )
 

@@ -15,14 +15,14 @@ loop-after-preserved g c =
     let wanted = c.args.filter.now in
     let rows = g.R.Registry.rows c.count.new.self in (
       record {
-        reads = reads-on g.R.Registry {result = Ok (tt {0})} before.reads page.reads;
+        reads = reads-as g.R.Registry (reads-on g.R.Registry {result = Ok (tt {0})} before.reads page.reads);
         through = λ faithful short.
             let earlier = page.reads.was faithful in
             let through = subst (λ (all : List StoredRecord). GoesThrough kind wanted (take ROWS_AT_ONCE (drop c.loop-after.after all)) c.loop-after.gathered c.gather_page.new.gathered) (before.reads.same earlier) (page.ok faithful) in
             subst (λ after. GoesThrough kind wanted (take after rows) c.args.gathered.now c.gather_page.new.gathered) (sym c.saturating_add-after.ensures)
             (goes-further kind wanted (2 ^ 32 - 1) c.in_ok-all.all c.loop-after.after ROWS_AT_ONCE rows c.args.gathered.now c.loop-after.gathered c.gather_page.new.gathered (omega arith) short (before.through earlier short) through);
       },
-      g.met.M.Meanwhile.keeps_on _ _ _ c.loop-after.invariant.1 c.after_page-goes_on.ensures.keeps,
+      g.met.M.Meanwhile.keeps_on _ _ _ c.loop-after.invariant.1 page.keeps,
       search rules,
     )
 
