@@ -1,4 +1,6 @@
-"""`simulate --settle` and `simulate --seed`: random runs settle, and the worked ones as they were worked out by hand."""
+"""`simulate --settle` and `simulate --seed`: random runs settle, also from random starts, and the worked ones as they were
+worked out by hand.
+"""
 import os
 import pathlib
 import re
@@ -52,6 +54,14 @@ def words(seed):
         state = stepped(state, increment)
 
 
+def record(letter, suffix, number):
+    """A row at this revision, of a record whose name ends in the suffix."""
+    members = (f"a{suffix} b{suffix}", f"a{suffix}")[number % 2]
+    if letter == "g":
+        return f"group g{suffix},{number},{members}"
+    return f"user {letter}{suffix},{number},,,,," + ("active" if number % 3 else "left")
+
+
 def event(drawn, revisions, suffix=""):
     """The event of a word, as a line, of records whose names end in the suffix."""
     rest, what = divmod(drawn, 8)
@@ -60,10 +70,7 @@ def event(drawn, revisions, suffix=""):
     kind = "group" if letter == "g" else "user"
     if what < 2:
         revisions[letter] += 1
-        number = revisions[letter]
-        members = (f"a{suffix} b{suffix}", f"a{suffix}")[number % 2]
-        fields = members if kind == "group" else ",,,," + ("active" if number % 3 else "left")
-        return f"{kind} {name},{number},{fields}"
+        return record(letter, suffix, revisions[letter])
     if what < 4:
         return f"send {kind} {name}"
     if what < 7:
@@ -71,10 +78,18 @@ def event(drawn, revisions, suffix=""):
     return ("restart provider", "restart connector", f"cut {1 + rest % 64} {rest % 50}")[rest % 3]
 
 
-def schedule(seed, count):
-    """The events of a seed, as lines."""
-    revisions = dict.fromkeys("abcg", 0)
+def schedule(seed, count, first=0):
+    """The events of a seed, as lines, if the records had these revisions before."""
+    revisions = dict.fromkeys("abcg", first)
     return [event(drawn, revisions) for _, drawn in zip(range(count), words(seed))]
+
+
+def start(seed):
+    """What the provider holds at the random start of a seed, as lines."""
+    drawn = words(seed)
+    count = 1 + next(drawn) // 2**16 % 36
+    rests = [word // 2**16 for _, word in zip(range(count), drawn)]
+    return ["held " + record("abcg"[rest // 2 % 4], str(rest // 8 % 8) * (rest % 2), 1 + rest // 64 % 9) for rest in rests]
 
 
 # ---- worked rows
@@ -100,6 +115,12 @@ class Draws(unittest.TestCase):
             with self.subTest(count=count):
                 self.assertEqual(simulate("--seed", 7, "--events", count), scheduled(schedule(7, count)))
 
+    def test_starts(self):
+        for seed in (0, 1, 2, 2**64 - 1):
+            with self.subTest(seed=seed):
+                lines = [*start(seed), *schedule(seed, 200, first=9)]
+                self.assertEqual(simulate("--seed", seed, "--events", 200, "--any-start"), scheduled(lines))
+
     def test_most(self):
         status, out, _ = simulate("--seed", 5, "--events", 100_000)
         self.assertIn(status, (0, 1))
@@ -120,6 +141,27 @@ class Settling(unittest.TestCase):
                     self.assertEqual((confirmed, held), (wanted, wanted))
                 refused = any(re.fullmatch(r"\d+ S(7|8 .*|12)", line) for line in lines[:1_000])
                 self.assertEqual((status, err), (int(refused), ""))
+
+    def test_starts(self):
+        """1,000 random starts, at which the provider holds records of the source and others, settle as well."""
+        foreign = 0
+        for seed in range(1_000):
+            with self.subTest(seed=seed):
+                status, out, err = simulate("--seed", seed, "--events", 100, "--any-start", "--settle")
+                held, lines = len(start(seed)), out.splitlines()
+                settled = re.fullmatch(r"settled in (\d+) exchanges", lines[held + 100])
+                self.assertLessEqual(int(settled.group(1)), 12)
+                for line in lines[held + 101:]:
+                    if line.startswith("other "):
+                        foreign += 1
+                        continue
+                    _, _, wanted, confirmed, held_now, _, what, value = VIEW.fullmatch(line).groups()
+                    self.assertEqual((confirmed, held_now), (wanted, wanted))
+                    number = int(wanted)
+                    self.assertEqual(value, str(2 - number % 2) if what == "members" else "true" if number % 3 else "false")
+                refused = any(re.fullmatch(r"\d+ S(7|8 .*|12)", line) for line in lines[:held + 100])
+                self.assertEqual((status, err), (int(refused), ""))
+        self.assertGreater(foreign, 1_000)
 
     def test_no_events(self):
         self.assertEqual(scheduled([], "--settle"), (0, "settled in 0 exchanges\n", ""))
@@ -170,7 +212,8 @@ class Arguments(unittest.TestCase):
     def test_wrong(self):
         for arguments in ([], ["--settle"], ["a", "--seed", 1], ["a", "--events", 1], ["--events", 1],
                           ["--seed", 1, "--events", 0], ["--seed", 1, "--events", 100_001], ["--seed", -1],
-                          ["--seed", 2**64], ["--seed", "x"], ["--seed", ""], ["--seed", 1, "--events", "x"]):
+                          ["--seed", 2**64], ["--seed", "x"], ["--seed", ""], ["--seed", 1, "--events", "x"],
+                          ["a", "--any-start"], ["--any-start"], ["--seed", 1, "--connectors", 2, "--any-start"]):
             with self.subTest(arguments=arguments):
                 status, out, err = simulate(*arguments)
                 self.assertEqual((status, out), (2, ""))
@@ -179,6 +222,7 @@ class Arguments(unittest.TestCase):
     def test_told(self):
         self.assertEqual(simulate()[2], "error: simulate takes one of FILE and --seed S\n")
         self.assertEqual(simulate("--seed", 1, "--events", 0)[2], "error: --events is 1 to 100000, with --seed\n")
+        self.assertEqual(simulate("a", "--any-start")[2], "error: --any-start goes with --seed, and not with --connectors\n")
 
     def test_greatest_seed(self):
         self.assertEqual(simulate("--seed", f"+{2**64 - 1}", "--events", 50), simulate("--seed", 2**64 - 1, "--events", 50))

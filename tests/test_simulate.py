@@ -57,6 +57,13 @@ other user bob,0,,,,,active
 other group crew,1,ann Ann
 other users bob,1,,,,,active
 other  user bob,1,,,,,active
+held
+held user
+held bob,1,,,,,active
+held user bob,0,,,,,active
+held group crew,1,ann Ann
+held  user bob,1,,,,,active
+held other user bob,1,,,,,active
 other send user bob
 other other user bob,1,,,,,active
 Other user bob,1,,,,,active"""

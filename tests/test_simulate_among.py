@@ -33,6 +33,11 @@ class SimulateAmongTest(ProgramTest):
         run = scimlink("simulate", EXAMPLES / "others.schedule")
         self.assert_prints(run, *OF_THE_EXAMPLE.split("\n"))
 
+    def test_the_example_of_a_restored_store(self):
+        run = scimlink("simulate", EXAMPLES / "restored.schedule", "--settle")
+        bob = "user bob wanted=2 confirmed=2 held=2 version=2 active=false"
+        self.assert_prints(run, "1 other 201", "2 other 201", "3 new", "settled in 2 exchanges", bob, "other user dee held=3 version=1 active=true")
+
     def test_creation_and_replacement(self):
         creation = "other user Dee,1,,Dee,,,active,Sales"
         self.assert_prints(self.simulate(creation), "1 other 201", "other user dee held=1 version=1 active=true")
@@ -69,6 +74,23 @@ class SimulateAmongTest(ProgramTest):
         bob = "user bob wanted=1 confirmed=0 held=3 version=1 active=false"
         told = "schedule line 7: others write user bob, a record of the source"
         self.assert_prints(self.simulate(*lines), *reports, bob, status=1, errors=[told])
+
+    def test_what_is_held_at_the_start(self):
+        """Somebody had switched bob on: the source's row, of a higher revision, switches him off, and nothing is contested."""
+        lines = ["held user bob,1,,,,,active", "held user dee,1,,,,,active", "held group crew,1,bob zoe", "user bob,2,,,,,left"]
+        reports = ["1 other 201", "2 other 201", "3 waits zoe", "4 new"]
+        others = ["other user dee held=1 version=1 active=true", "other group crew held=0 version=0 members=0"]
+        bob = "user bob wanted=2 confirmed=0 held=1 version=1 active=true"
+        self.assert_prints(self.simulate(*lines), *reports, bob, *others, status=1)
+        bob = "user bob wanted=2 confirmed=2 held=2 version=2 active=false"
+        self.assert_prints(self.simulate(*lines, settle=True), *reports, "settled in 2 exchanges", bob, *others)
+
+    def test_what_is_held_comes_first(self):
+        held = "held user bob,1,,,,,active"
+        for line in ("user ann,1,,,,,active", "other user ann,1,,,,,active", "restart provider"):
+            with self.subTest(line=line):
+                run = self.simulate("# one", held, line, "", held)
+                self.assert_prints(run, status=1, errors=["schedule line 5: L1"])
 
     def doubting(self, *lines):
         """The run of these lines after bob, who left, was created and confirmed, and somebody switched him on again."""

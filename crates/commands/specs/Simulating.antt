@@ -1,11 +1,11 @@
 -- The events that the arguments of `simulate` ask for.
-use Rattle.std.specs.Prelude.{ℕ, Bool, false, List, Option, None, Some, Result, Ok, Err}
+use Rattle.std.specs.Prelude.{ℕ, Bool, true, false, List, Option, None, Some, Result, Ok, Err}
 use Rattle.std.specs.Prelude.{if◌then◌else◌, ◌&&◌, codes, nat_le}
 use Rattle.std.specs.Str.{bytes_eq}
 use denote.Ref.{Bor}
 use Rattle.commands.specs.declared.simulating.Events.{Events}
 use Rattle.commands.specs.declared.simulating.Events.TheVariants.{Scheduled, Random}
-use Rattle.commands.specs.declared.simulating.EventsFault.TheVariants.{Source, Count, Connectors}
+use Rattle.commands.specs.declared.simulating.EventsFault.TheVariants.{Source, Count, Connectors, Start}
 use Rattle.commands.specs.declared.status.CommandFault.{CommandFault}
 use Rattle.commands.specs.declared.status.CommandFault.TheVariants as fault
 
@@ -33,6 +33,13 @@ abbrev pub wanted_connectors : Events → (connectors : Option ℕ) → Result (
 wanted_connectors events None = Ok None
 wanted_connectors (Random seed count) (Some connectors) = several connectors
 wanted_connectors (Scheduled file) (Some connectors) = Err (fault.Events Connectors)
+
+-- Whether the events begin at a random start, if the arguments say it; only random events of one connector do
+abbrev pub wanted_start : Events → (connectors : Option ℕ) → (is_any : Bool) → Result Bool CommandFault
+wanted_start events connectors false = Ok false
+wanted_start (Random seed count) None true = Ok true
+wanted_start (Random seed count) (Some connectors) true = Err (fault.Events Start)
+wanted_start (Scheduled file) connectors true = Err (fault.Events Start)
 
 -- ---- single arguments
 

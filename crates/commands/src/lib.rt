@@ -40,7 +40,9 @@ pub use pushing::{push, push_over};
 pub use resetting::reset;
 pub use serving::serve;
 pub use showing::show;
-pub use simulating_among::{Schedule, acted_status, schedule_of, simulate_among, tell_contested};
+pub use simulating_among::{
+    Schedule, acted_status, refuse_late, schedule_of, simulate_among, tell_contested,
+};
 pub use simulation::{simulate, simulate_several};
 pub use status::{
     Cause, CommandFault, Part, Reason, Status, listen_fault, told, unread_fault, words_fault,

@@ -2,7 +2,7 @@
 ghost use Rattle.std.specs.Prelude.{◌≡◌, codes};
 ghost use Rattle.clap.specs.Matches.{first_value, found_of, one_text};
 ghost use Rattle.commands.specs.Addresses.{text_in};
-ghost use Rattle.commands.specs.Simulating.{is_set, wanted_connectors, wanted_events};
+ghost use Rattle.commands.specs.Simulating.{is_set, wanted_connectors, wanted_events, wanted_start};
 ghost use Rattle.commands.specs.Words.{GivesNumber};
 
 use crate::status::CommandFault;
@@ -36,6 +36,8 @@ pub enum EventsFault {
     Count,
     #[error("--connectors is 1 to {most}, with --seed", most = MOST_CONNECTORS)]
     Connectors,
+    #[error("--any-start goes with --seed, and not with --connectors")]
+    Start,
 }
 
 /// The events of a schedule, or random ones, but not both.
@@ -77,6 +79,21 @@ pub fn wanted_connectors(
     }
 }
 
+/// Whether the events begin at a random start, if the arguments say it. Only random events of one connector do.
+pub fn wanted_start(
+    events: Events<'_>,
+    connectors: Option<u32>,
+    is_any: bool,
+) -> Result<bool, CommandFault>
+    ensures { result ≡ wanted_start events.entry connectors is_any }
+{
+    match (events, connectors, is_any) {
+        (_, _, false) => Ok(false),
+        (Events::Random { .. }, None, true) => Ok(true),
+        (_, _, true) => Err(CommandFault::Events(EventsFault::Start)),
+    }
+}
+
 /// The file of a schedule in the arguments, if there is one.
 pub fn schedule<'a>(matches: &ArgMatches<'a>) -> Option<&'a str>
     ensures { text_in result ≡ first_value (found_of matches.now) (codes "FILE") }
@@ -110,4 +127,11 @@ pub fn settles(matches: &ArgMatches<'_>) -> bool
     ensures { result ≡ is_set (one_text (found_of matches.now) (codes "settle")) }
 {
     matches.get_one("settle").unwrap_or(false)
+}
+
+/// Whether the arguments ask for a random start.
+pub fn any_start(matches: &ArgMatches<'_>) -> bool
+    ensures { result ≡ is_set (one_text (found_of matches.now) (codes "any-start")) }
+{
+    matches.get_one("any-start").unwrap_or(false)
 }

@@ -50,6 +50,20 @@ fn among_of(alloc: Global, text: &str) -> Result<Schedule, ScheduleFault>
     }
 }
 
+/// Refuses a line by which something is held after a line of another kind: what is held is there at the start.
+pub fn refuse_late(alloc: Global, text: &str, acts: &[Act]) -> Result<(), ScheduleFault> {
+    let numbers = said_lines(alloc, text)?;
+    let mut is_begun = false;
+    for (number, act) in numbers.iter().zip(acts) {
+        match act {
+            Act::Holds(_) if is_begun => return Err(ScheduleFault::Line(*number)),
+            Act::Holds(_) => {}
+            Act::Ours(_) | Act::Asks(_) | Act::Writes(_) | Act::WritesRow(_) => is_begun = true,
+        }
+    }
+    Ok(())
+}
+
 /// Reports each line by which others write a record of which a line of ours offers a row.
 pub fn tell_contested(
     stderr: &impl Eprint,

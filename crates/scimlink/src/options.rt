@@ -361,6 +361,14 @@ static COMMANDS: &[CommandText] = &[
                 help: Help::Text("how many connectors share the provider, 1 to 100, with a seed"),
             },
             OptionText {
+                name: "any-start",
+                value: Value::Nothing,
+                rule: Rule::Optional,
+                help: Help::Text(
+                    "the provider holds random records before the first event, with a seed",
+                ),
+            },
+            OptionText {
                 name: "settle",
                 value: Value::Nothing,
                 rule: Rule::Optional,

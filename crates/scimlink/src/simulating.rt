@@ -2,12 +2,13 @@
 use crate::options::DEFAULT_BASE;
 use clap::ArgMatches;
 use commands::simulating::{
-    Events, connectors, count, schedule, seed, settles, wanted_connectors, wanted_events,
+    Events, any_start, connectors, count, schedule, seed, settles, wanted_connectors,
+    wanted_events, wanted_start,
 };
 use commands::words::base_fault;
 use commands::{
-    CommandFault, Part, Schedule, Status, schedule_of, simulate as run_events, simulate_among,
-    simulate_several, tell_contested, unread_fault,
+    CommandFault, Part, Schedule, Status, refuse_late, schedule_of, simulate as run_events,
+    simulate_among, simulate_several, tell_contested, unread_fault,
 };
 use journal_core::MemoryJournal;
 use provider_core::MemoryRegistry;
@@ -16,7 +17,7 @@ use std::alloc::Global;
 use std::io::BufWriter;
 use std::rt::Runtime;
 use std::{fs, io};
-use world_sim::{Act, Event, ReportLines, random_schedule};
+use world_sim::{Act, Event, ReportLines, random_from_any_start, random_schedule};
 
 /// Runs the events of a file, or random ones, and prints a report for each, then settles every record if asked
 /// to, and prints, for each record, what is wanted, confirmed and held.
@@ -26,9 +27,13 @@ pub fn simulate<R: Runtime + AllocGlobal>(
 ) -> Result<Status, CommandFault> {
     let events = wanted_events(schedule(words), seed(words), count(words))?;
     let connectors = wanted_connectors(events, connectors(words))?;
+    let any_start = wanted_start(events, connectors, any_start(words))?;
     match (events, connectors) {
         (Events::Random { seed, count }, Some(connectors)) => {
             run_several(rt, seed, count, connectors, settles(words))
+        }
+        (Events::Random { seed, count }, None) if any_start => {
+            run_from_any_start(rt, seed, count, settles(words))
         }
         (Events::Random { seed, count }, None) => run_random(rt, seed, count, settles(words)),
         (Events::Scheduled(file), _) => scheduled(rt, file, settles(words)),
@@ -51,6 +56,17 @@ fn run_random<R: Runtime + AllocGlobal>(
     run(rt, events.as_slice(), settles)
 }
 
+/// Runs random events from a random start.
+fn run_from_any_start<R: Runtime + AllocGlobal>(
+    rt: &R,
+    seed: u64,
+    count: u32,
+    settles: bool,
+) -> Result<Status, CommandFault> {
+    let acts = random_from_any_start(rt.alloc(), seed, count)?;
+    run_among(rt, acts.as_slice(), settles)
+}
+
 /// Runs the schedule in a file.
 fn scheduled<R: Runtime + AllocGlobal>(
     rt: &R,
@@ -61,6 +77,7 @@ fn scheduled<R: Runtime + AllocGlobal>(
     match schedule_of(rt.alloc(), text.as_str())? {
         Schedule::Alone(events) => run(rt, events.as_slice(), settles),
         Schedule::Among(acts) => {
+            refuse_late(rt.alloc(), text.as_str(), acts.as_slice())?;
             tell_contested(rt, rt.alloc(), text.as_str(), acts.as_slice())?;
             run_among(rt, acts.as_slice(), settles)
         }

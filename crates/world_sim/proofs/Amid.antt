@@ -1,13 +1,15 @@
 -- Runs among others: one act, one act more, and from empty stores.
-use Rattle.std.proofs.Common.{◌≡◌, ◌+◌, ℕ, false, List, [], ◌∷◌, ◌++◌, Option, Some, None, map, refl, ap, sym, subst, inl, ◌∙◌, append-nil}
-use Rattle.std.proofs.lemmas.List.{append_assoc, map_push}
+use Rattle.std.proofs.Common.{◌≡◌, ◌+◌, ℕ, false, List, [], ◌∷◌, ◌++◌, Option, Some, None, Result, Ok, Err, IfErr, IfOk, OnOk, map, refl, ap, sym, subst, inl, ◌∙◌, append-nil}
+use Rattle.std.proofs.lemmas.List.{append_assoc, map-append, map_push}
+use Rattle.std.specs.FinMap as fin
 use Rattle.std.specs.List.{AllByRecursion}
+use Rattle.scim_key.specs.Bases.{IsBase}
 use Rattle.scim_message.specs.Messages.{answer_status}
 use Rattle.scim_message.specs.declared.messages.Request.{Request}
 use Rattle.scim_resource.specs.Contents.{content_name}
 use Rattle.scim_resource.specs.Rows.{StoredRecord}
 use Rattle.scim_resource.specs.declared.contents.Content.{Content}
-use Rattle.source_csv.specs.Records.{row_name}
+use Rattle.source_csv.specs.Records.{IsRow, row_name}
 use Rattle.source_csv.specs.Rows.{GroupFields}
 use Rattle.source_csv.specs.declared.rows.Row.{Row}
 use Rattle.source_csv.specs.declared.rows.Row.TheVariants.{User, Group}
@@ -21,7 +23,10 @@ use Rattle.provider_core.specs.declared.registry.Registry.{Ghosts as Registries}
 use Rattle.journal_core.specs.declared.journals.Journal.{Ghosts as Journals}
 use Rattle.world_model.specs.Invariant.{Names, all_names}
 use Rattle.world_model.specs.Others.{Ours, Theirs, HeadlineAmong, IsApart, KeepsApart, LeavesAlone, acts, run_among}
+use Rattle.world_model.specs.Healing.{IsStart}
 use Rattle.world_model.specs.Reports.{Report, report, reports}
+use Rattle.world_model.specs.Resetting.{HeadlineFrom, StayApart, run_through}
+use Rattle.world_model.specs.Resetting as resets
 use Rattle.world_model.specs.Safe.{Onward, rows as world_rows}
 use Rattle.world_model.specs.World.{World, Message, empty, happens, run}
 use Rattle.world_model.proofs.Headlines.{headline_holds, headline_holds_among}
@@ -29,12 +34,14 @@ use Rattle.world_model.proofs.Invariant.{all_of_ours}
 use Rattle.world_model.proofs.Onwards.{always_onward, always_onward_among, among-append}
 use Rattle.world_model.proofs.Others.{without_others}
 use Rattle.world_model.proofs.Safety.{always_safe, always_safe_among}
-use Rattle.world_sim.specs.Acts.{Answers, write_of, write_request}
-use Rattle.world_sim.specs.Amid.{ActReport, Of_ours, Of_others, Of_waiting, Does, FailsToDo, IsApartFrom, RunsAlone, RunsAmong, RunsAmongFromEmpty, act_of, act_report, act_report_of, act_reports, acts_of, after_act, asked_by, row_report}
+use Rattle.world_model.proofs.Starting.{headline_from_any_start, without_resets}
+use Rattle.world_sim.specs.Acts.{Answers, Leads, write_of, write_request}
+use Rattle.world_sim.specs.Amid.{ActReport, Of_ours, Of_others, Of_waiting, AreApart, Does, FailsToDo, IsApartFrom, IsApartIn, IsRunAmong, IsSafeRun, RunsAlone, RunsAmong, RunsAmongFromEmpty, act_of, act_report, act_report_of, act_reports, acts_of, after_act, asked_by, held_by, moved, moved_by, row_report}
 use Rattle.world_sim.specs.Events.{event_of, events_of, report_of}
 use Rattle.world_sim.specs.Imaging.{id_in, request_told, row_request}
 use Rattle.world_sim.specs.Messages.{message_size}
-use Rattle.world_sim.specs.Running.{Happens, HoldsOneOf, IsAmong, IsSound, Mirrors, Starts, journal_in}
+use Rattle.world_sim.specs.Fitting.{IsFitStart}
+use Rattle.world_sim.specs.Running.{Happens, HoldsOneOf, IsAmong, IsSound, Mirrors, Scope, Starts, journal_in}
 use Rattle.world_sim.specs.declared.acting.Act.{Act as ActOf}
 use Rattle.world_sim.specs.declared.acting.Act.TheVariants as deeds
 use Rattle.world_sim.specs.declared.acting.ActReport.{ActReport as ActReportOf}
@@ -47,8 +54,10 @@ use Rattle.world_sim.specs.declared.reports.WorldFault.{WorldFault}
 use Rattle.world_sim.specs.declared.reports.WorldFault.TheVariants.{Memory}
 use Rattle.world_sim.specs.declared.worlds.World.{World as Running}
 use Rattle.world_sim.proofs.Acts.{IsRead, looked, looked_excuse, sound_old, unknown_now}
-use Rattle.world_sim.proofs.Reaching.{is_at, is_of_ours}
-use Rattle.world_sim.proofs.WholeRuns.{all_back, all_front}
+use Rattle.world_sim.proofs.Given.{does_apart}
+use Rattle.world_sim.proofs.Reaching.{begun, is_at, is_of_ours}
+use Rattle.world_sim.proofs.Starts.{fit_held}
+use Rattle.world_sim.proofs.WholeRuns.{all_front}
 
 -- ---- the model's acts
 
@@ -71,6 +80,7 @@ apart_act ours w (deeds.Ours event) apart = (apart, tt)
 apart_act ours w (deeds.Asks request) apart = (apart, tt)
 apart_act ours w (deeds.Writes content) apart = (write_apart ours (row_named (content_name content) (world_rows w)) content apart, tt)
 apart_act ours w (deeds.WritesRow row) apart = row_apart ours (world_rows w) row apart
+apart_act ours w (deeds.Holds row) apart = absurd apart
 
 all_both : {X : Type 0} (P : X → Type 0) (xs ys : List X) → AllByRecursion P xs → AllByRecursion P ys → AllByRecursion P (xs ++ ys)
 all_both P [] ys front back = back
@@ -103,7 +113,88 @@ acts-append w (a ∷ early) late =
     ∙ sym (append_assoc (act_of w a) rest (acts_of (run_among (after_act w a) rest) late))
     ∙ ap (λ v. (act_of w a ++ rest) ++ acts_of v late) (sym (among-append w (act_of w a) rest))
 
--- ---- a walk over acts
+-- ---- acts that keep apart, and those of the start
+
+front_apart : (scope : Scope) (w : World) (early late : List ActOf) → AreApart scope w (early ++ late) → AreApart scope w early
+front_apart scope w [] late apart = tt
+front_apart scope w (a ∷ early) late apart = (apart.0, front_apart (moved scope w a) (after_act w a) early late apart.1)
+
+last_apart : (scope : Scope) (w : World) (early : List ActOf) (act : ActOf) → AreApart scope w (early ++ act ∷ []) → IsApartIn (moved_by scope w early) (run_among w (acts_of w early)) act
+last_apart scope w [] act apart = apart.0
+last_apart scope w (a ∷ early) act apart =
+    subst (λ v. IsApartIn (moved_by (moved scope w a) (after_act w a) early) v act) (sym (among-append w (act_of w a) (acts_of (after_act w a) early)))
+    (last_apart (moved scope w a) (after_act w a) early act apart.1)
+
+moved-more : (scope : Scope) (w : World) (early : List ActOf) (act : ActOf) → moved_by scope w (early ++ act ∷ []) ≡ moved (moved_by scope w early) (run_among w (acts_of w early)) act
+moved-more scope w [] act = refl
+moved-more scope w (a ∷ early) act =
+    moved-more (moved scope w a) (after_act w a) early act
+    ∙ ap (λ v. moved (moved_by (moved scope w a) (after_act w a) early) v act) (sym (among-append w (act_of w a) (acts_of (after_act w a) early)))
+
+-- after the start
+later_apart : (scope : Scope) (w : World) (later : List ActOf) → AllByRecursion (IsApartFrom scope.ours) later → AreApart scope w later
+later_apart scope w [] apart = tt
+later_apart scope w (deeds.Ours event ∷ later) apart = (apart.0, later_apart scope (after_act w (deeds.Ours event)) later apart.1)
+later_apart scope w (deeds.Asks request ∷ later) apart = (apart.0, later_apart scope (after_act w (deeds.Asks request)) later apart.1)
+later_apart scope w (deeds.Writes content ∷ later) apart = (apart.0, later_apart scope (after_act w (deeds.Writes content)) later apart.1)
+later_apart scope w (deeds.WritesRow row ∷ later) apart = (apart.0, later_apart scope (after_act w (deeds.WritesRow row)) later apart.1)
+later_apart scope w (deeds.Holds row ∷ later) apart = absurd apart.0
+
+later_moved : (scope : Scope) (w : World) (later : List ActOf) → AllByRecursion (IsApartFrom scope.ours) later → moved_by scope w later ≡ scope
+later_moved scope w [] apart = refl
+later_moved scope w (deeds.Ours event ∷ later) apart = later_moved scope (after_act w (deeds.Ours event)) later apart.1
+later_moved scope w (deeds.Asks request ∷ later) apart = later_moved scope (after_act w (deeds.Asks request)) later apart.1
+later_moved scope w (deeds.Writes content ∷ later) apart = later_moved scope (after_act w (deeds.Writes content)) later apart.1
+later_moved scope w (deeds.WritesRow row ∷ later) apart = later_moved scope (after_act w (deeds.WritesRow row)) later apart.1
+later_moved scope w (deeds.Holds row ∷ later) apart = absurd apart.0
+
+abbrev scope_at : Names → World → Scope
+scope_at ours start = record { ours = ours; start = start }
+
+held_apart : (ours : Names) (start : World) (held : List Row) (later : List ActOf) → AllByRecursion (IsApartFrom ours) later → AreApart (scope_at ours start) start (map deeds.Holds held ++ later)
+held_apart ours start [] later apart = later_apart (scope_at ours start) start later apart
+held_apart ours start (row ∷ held) later apart = (refl, held_apart ours (after_act start (deeds.Holds row)) held later apart)
+
+held_moved : (ours : Names) (start : World) (held : List Row) (later : List ActOf) → AllByRecursion (IsApartFrom ours) later
+    → moved_by (scope_at ours start) start (map deeds.Holds held ++ later) ≡ scope_at ours (run_among start (acts_of start (map deeds.Holds held)))
+held_moved ours start [] later apart = later_moved (scope_at ours start) start later apart
+held_moved ours start (row ∷ held) later apart =
+    let next = after_act start (deeds.Holds row) in
+    held_moved ours next held later apart ∙ ap (scope_at ours) (sym (among-append start (act_of start (deeds.Holds row)) (acts_of next (map deeds.Holds held))))
+
+held_then : (held : List Row) (later : List ActOf) → run_among empty (acts_of empty (map deeds.Holds held ++ later)) ≡ run_among (held_by held) (acts_of (held_by held) later)
+held_then held later =
+    ap (run_among empty) (acts-append empty (map deeds.Holds held) later) ∙ among-append empty (acts_of empty (map deeds.Holds held)) (acts_of (held_by held) later)
+
+-- ---- what is promised of runs
+
+module _ (ours : Names) (later : List ActOf) (apart : AllByRecursion (IsApartFrom ours) later) where
+  front_of : (early late : List ActOf) → early ++ late ≡ later → AllByRecursion (IsApartFrom ours) early
+  front_of early late split = all_front (IsApartFrom ours) early late (subst (AllByRecursion (IsApartFrom ours)) (sym split) apart)
+
+  safe_run : IsSafeRun ours later
+  safe_run = record {
+    safe = λ early late split. always_safe_among ours (acts_of empty early) (apart_acts ours empty early (front_of early late split));
+    onward = λ early middle late split. subst (λ l. Onward (run_among empty (acts_of empty early)) (run_among empty l)) (sym (acts-append empty early middle))
+        (always_onward_among (acts_of empty early) (acts_of (run_among empty (acts_of empty early)) middle));
+    headline = λ early middle late split. subst (λ l. HeadlineAmong ours (run_among empty (acts_of empty early)) (run_among empty l)) (sym (acts-append empty early middle))
+        (headline_holds_among ours (acts_of empty early) (acts_of (run_among empty (acts_of empty early)) middle)
+        (subst (KeepsApart ours) (acts-append empty early middle) (apart_acts ours empty (early ++ middle) (front_of (early ++ middle) late split))));
+  }
+
+  -- from any start
+  headline_at : (start : World) → IsStart start → (early middle late : List ActOf) → (early ++ middle) ++ late ≡ later
+      → HeadlineFrom ours start (map resets.Does (acts_of start early)) (run_among start (acts_of start early)) (run_among start (acts_of start (early ++ middle)))
+  headline_at start is_start early middle late split =
+      let before = acts_of start early in
+      let after = acts_of (run_among start before) middle in
+      let both = acts-append start early middle in
+      let all_apart = subst (KeepsApart ours) both (apart_acts ours start (early ++ middle) (front_of (early ++ middle) late split)) in
+      let stay = subst (StayApart ours) (map-append resets.Does before after) (does_apart ours (before ++ after) all_apart) in
+      let raw = headline_from_any_start ours start (map resets.Does before) (map resets.Does after) is_start stay in
+      let same = ap (run_through start) (sym (map-append resets.Does before after)) ∙ without_resets start (before ++ after) ∙ ap (run_among start) (sym both) in
+      subst (λ v. HeadlineFrom ours start (map resets.Does before) (run_among start before) v) same
+      (subst (λ u. HeadlineFrom ours start (map resets.Does before) u (run_through start (map resets.Does before ++ map resets.Does after))) (without_resets start before) raw)
 
 -- ---- without others
 
@@ -165,9 +256,9 @@ module _ {R J : Type 0} (g : Registries R) (h : Journals J) where
     report = λ sound w is. ap Of_others (a.answer sound w is.mirrors ∙ ap (λ rows. answer_status (step w.entries (write_of rows content)).answer) (is.mirrors.rows (a.was_open sound)));
   }
     where
-      after : IsSound g h new → {ours : Names} (w : World) → IsAmong g h ours old w → ours (content_name content) ≡ false → IsAmong g h ours new (acts w (Theirs (write_of (world_rows w) content)))
-      after sound {ours} w is apart =
-          let made = a.among sound w is (write_apart ours (row_named (content_name content) (g.rows old.provider)) content apart) in
+      after : IsSound g h new → {scope : Scope} (w : World) → IsAmong g h scope old w → scope.ours (content_name content) ≡ false → IsAmong g h scope new (acts w (Theirs (write_of (world_rows w) content)))
+      after sound {scope} w is apart =
+          let made = a.among sound w is (write_apart scope.ours (row_named (content_name content) (g.rows old.provider)) content apart) in
           is_at g h new (acts w (Theirs (write_of (g.rows old.provider) content))) (acts w (Theirs (write_of (world_rows w) content)))
           (ap (λ rows. acts w (Theirs (write_of rows content))) (sym (is.mirrors.rows (a.was_open sound)))) made
 
@@ -191,7 +282,7 @@ module _ {R J : Type 0} (g : Registries R) (h : Journals J) where
     abbrev pub midway : Running R J
     midway = record old { provider = mid }
 
-    is_midway : IsSound g h midway → {ours : Names} (w : World) → IsAmong g h ours old w → IsAmong g h ours midway w
+    is_midway : IsSound g h midway → {scope : Scope} (w : World) → IsAmong g h scope old w → IsAmong g h scope midway w
     is_midway sound w is = record { mirrors = looked g h old mid read sound w is.mirrors; base = is.base; reached = is.reached }
 
     module _ (asks : RowRequest) (finds : g.is_faithful mid → asks ≡ row_request (g.rows old.provider) row) where
@@ -208,8 +299,8 @@ module _ {R J : Type 0} (g : Registries R) (h : Journals J) where
       report = λ sound w is. ap (row_report w) (is_asked (requests.Waits member) finds sound w is.mirrors);
     }
       where
-        after : IsSound g h midway → {ours : Names} (w : World) → IsAmong g h ours old w → IsAmong g h ours midway (after_act w (deeds.WritesRow row))
-        after sound {ours} w is = subst (λ asks. IsAmong g h ours midway (run_among w (asked_by asks))) (is_asked (requests.Waits member) finds sound w is.mirrors) (is_midway sound w is)
+        after : IsSound g h midway → {scope : Scope} (w : World) → IsAmong g h scope old w → IsAmong g h scope midway (after_act w (deeds.WritesRow row))
+        after sound {scope} w is = subst (λ asks. IsAmong g h scope midway (run_among w (asked_by asks))) (is_asked (requests.Waits member) finds sound w is.mirrors) (is_midway sound w is)
 
     module _ (new : Running R J) (request : Request) (finds : g.is_faithful mid → requests.Asks request ≡ row_request (g.rows old.provider) row) where
       pub row_written : (said : ActReportOf) → Does g h midway new (deeds.Asks request) said → Does g h old new (deeds.WritesRow row) said
@@ -222,11 +313,11 @@ module _ {R J : Type 0} (g : Registries R) (h : Journals J) where
         report = λ sound w is. a.report sound w (is_midway (a.was sound) w is) ∙ ap (row_report w) (is_asked (requests.Asks request) finds (a.was sound) w is.mirrors);
       }
         where
-          after : IsSound g h new → {ours : Names} (w : World) → IsAmong g h ours old w → ours (row_name row) ≡ false → IsAmong g h ours new (after_act w (deeds.WritesRow row))
-          after sound {ours} w is apart =
+          after : IsSound g h new → {scope : Scope} (w : World) → IsAmong g h scope old w → scope.ours (row_name row) ≡ false → IsAmong g h scope new (after_act w (deeds.WritesRow row))
+          after sound {scope} w is apart =
               let asked = is_asked (requests.Asks request) finds (a.was sound) w is.mirrors in
-              let alone = subst (λ asks. KeepsApart ours (asked_by asks)) (sym asked) (row_apart ours (world_rows w) row apart) in
-              subst (λ asks. IsAmong g h ours new (run_among w (asked_by asks))) asked (a.is sound w (is_midway (a.was sound) w is) alone.0)
+              let alone = subst (λ asks. KeepsApart scope.ours (asked_by asks)) (sym asked) (row_apart scope.ours (world_rows w) row apart) in
+              subst (λ asks. IsAmong g h scope new (run_among w (asked_by asks))) asked (a.is sound w (is_midway (a.was sound) w is) alone.0)
 
       pub row_unwritten : (fault : WorldFault) → FailsToDo g h midway new (deeds.Asks request) fault → FailsToDo g h old new (deeds.WritesRow row) fault
       row_unwritten fault f = record {
@@ -240,6 +331,47 @@ module _ {R J : Type 0} (g : Registries R) (h : Journals J) where
         connector = f.connector;
         sent = f.sent;
       }
+
+      -- whatever others ask by it, about our records too
+      pub asks_lead : (result : Result ActReportOf WorldFault) → IfOk result (Does g h midway new (deeds.Asks request)) → OnOk result (Leads g h midway new (λ w. after_act w (deeds.Asks request)))
+          → OnOk result (Leads g h old new (λ w. after_act w (deeds.WritesRow row)))
+      asks_lead (Err fault) does leads = tt
+      asks_lead (Ok said) does leads = λ sound w m.
+          subst (λ asks. Mirrors g h new (run_among w (asked_by asks))) (is_asked (requests.Asks request) finds (does.was sound) w m)
+          (leads sound w (looked g h old mid read (does.was sound) w m))
+
+    pub waits_lead : (member : List ℕ) → (g.is_faithful mid → requests.Waits member ≡ row_request (g.rows old.provider) row) → Leads g h old midway (λ w. after_act w (deeds.WritesRow row))
+    waits_lead member finds sound w m =
+        subst (λ asks. Mirrors g h midway (run_among w (asked_by asks))) (is_asked (requests.Waits member) finds sound w m) (looked g h old mid read sound w m)
+
+  -- ---- a row that is held at the start
+
+  holds_row : (old new : Running R J) (row : Row) (said : ActReportOf) → IsRow row → Leads g h old new (λ w. after_act w (deeds.WritesRow row)) → Does g h old new (deeds.WritesRow row) said
+      → Does g h old new (deeds.Holds row) said
+  holds_row old new row said law leads d = record {
+    was = d.was;
+    base = d.base;
+    stays_open = d.stays_open;
+    journal_open = d.journal_open;
+    is = λ sound w is begins. after sound w is begins;
+    report = λ sound w is. d.report sound w is;
+  }
+    where
+      after : IsSound g h new → {scope : Scope} (w : World) → IsAmong g h scope old w → w ≡ scope.start → IsAmong g h (scope_at scope.ours (after_act w (deeds.Holds row))) new (after_act w (deeds.Holds row))
+      after sound {scope} w is begins = record {
+        mirrors = leads sound w is.mirrors;
+        base = subst IsBase (sym d.base) is.base;
+        reached = begun scope.ours (after_act w (deeds.Holds row)) (fit_held scope.ours w (subst (IsFitStart scope.ours) (sym begins) is.reached.begins) row law);
+      }
+
+  pub holds_told : (old new : Running R J) (row : Row) (result : Result ActReportOf WorldFault) → IsRow row → IfOk result (Does g h old new (deeds.WritesRow row))
+      → OnOk result (Leads g h old new (λ w. after_act w (deeds.WritesRow row))) → IfOk result (Does g h old new (deeds.Holds row))
+  holds_told old new row (Ok said) law does leads = holds_row old new row said law leads does
+  holds_told old new row (Err fault) law does leads = tt
+
+  pub unheld : (old new : Running R J) (row : Row) (result : Result ActReportOf WorldFault) → IfErr result (FailsToDo g h old new (deeds.WritesRow row)) → IfErr result (FailsToDo g h old new (deeds.Holds row))
+  unheld old new row (Ok said) fails = tt
+  unheld old new row (Err fault) fails = fails
 
   -- ---- acts one after the other
 
@@ -264,20 +396,22 @@ module _ {R J : Type 0} (g : Registries R) (h : Journals J) where
     told_so = λ sound w is apart. so sound w is apart;
   }
     where
-      middle : IsSound g h new → {ours : Names} (w : World) → IsAmong g h ours old w → AllByRecursion (IsApartFrom ours) (early ++ act ∷ []) → IsAmong g h ours mid (run_among w (acts_of w early))
-      middle sound {ours} w is apart = ran.is (more.was sound) w is (all_front (IsApartFrom ours) early (act ∷ []) apart)
+      middle : IsSound g h new → {scope : Scope} (w : World) → IsAmong g h scope old w → AreApart scope w (early ++ act ∷ []) → IsAmong g h (moved_by scope w early) mid (run_among w (acts_of w early))
+      middle sound {scope} w is apart = ran.is (more.was sound) w is (front_apart scope w early (act ∷ []) apart)
 
-      after : IsSound g h new → {ours : Names} (w : World) → IsAmong g h ours old w → AllByRecursion (IsApartFrom ours) (early ++ act ∷ []) → IsAmong g h ours new (run_among w (acts_of w (early ++ act ∷ [])))
-      after sound {ours} w is apart =
-          let made = more.is sound (run_among w (acts_of w early)) (middle sound w is apart) (all_back (IsApartFrom ours) early (act ∷ []) apart).0 in
-          subst (λ v. IsAmong g h ours new v) (sym (among-more w early act)) made
+      after : IsSound g h new → {scope : Scope} (w : World) → IsAmong g h scope old w → AreApart scope w (early ++ act ∷ [])
+          → IsAmong g h (moved_by scope w (early ++ act ∷ [])) new (run_among w (acts_of w (early ++ act ∷ [])))
+      after sound {scope} w is apart =
+          let made = more.is sound (run_among w (acts_of w early)) (middle sound w is apart) (last_apart scope w early act apart) in
+          subst (λ v. IsAmong g h (moved_by scope w (early ++ act ∷ [])) new v) (sym (among-more w early act))
+          (subst (λ s. IsAmong g h s new (after_act (run_among w (acts_of w early)) act)) (sym (moved-more scope w early act)) made)
 
-      so : IsSound g h new → {ours : Names} (w : World) → IsAmong g h ours old w → AllByRecursion (IsApartFrom ours) (early ++ act ∷ [])
+      so : IsSound g h new → {scope : Scope} (w : World) → IsAmong g h scope old w → AreApart scope w (early ++ act ∷ [])
           → map act_report_of (said ++ last ∷ []) ≡ act_reports (message_size old.service) w (early ++ act ∷ [])
-      so sound {ours} w is apart =
+      so sound {scope} w is apart =
           let there = middle sound w is apart in
           let one = more.report sound (run_among w (acts_of w early)) there in
-          let before = ran.told_so (more.was sound) w is (all_front (IsApartFrom ours) early (act ∷ []) apart) in
+          let before = ran.told_so (more.was sound) w is (front_apart scope w early (act ∷ []) apart) in
           map_push act_report_of said last
           ∙ ap (λ rs. rs ++ act_report_of last ∷ []) before
           ∙ ap (λ r. act_reports (message_size old.service) w early ++ r ∷ []) (one ∙ ap (λ b. act_report (message_size b) (run_among w (acts_of w early)) act) ran.base)
@@ -285,38 +419,45 @@ module _ {R J : Type 0} (g : Registries R) (h : Journals J) where
 
   -- ---- whole runs
 
-  pub ran_among : (first ran : Running R J) (registry : R) (journal : J) (base : List ℕ) (all : List ActOf) (said : List ActReportOf)
-      → first.service ≡ base → Starts g h registry journal first → RunsAmong g h first ran all said → RunsAmongFromEmpty g h registry journal base all ran said
-  ran_among first ran registry journal base all said at starts runs faithful rows kept sound ours apart = record {
-    base = runs.base ∙ at;
-    opened = runs.stays_open sound (starts.stays_open faithful);
-    journal_open = runs.journal_open sound (starts.journal_open (runs.was sound));
-    is = runs.is sound empty start apart;
-    told_so = runs.told_so sound empty start apart ∙ ap (λ b. act_reports (message_size b) empty all) at;
-    safe = λ early late split. always_safe_among ours (acts_of empty early) (apart_acts ours empty early (front early late split));
-    onward = λ early middle late split. subst (λ l. Onward (run_among empty (acts_of empty early)) (run_among empty l)) (sym (acts-append empty early middle))
-        (always_onward_among (acts_of empty early) (acts_of (run_among empty (acts_of empty early)) middle));
-    headline = λ early middle late split. subst (λ l. HeadlineAmong ours (run_among empty (acts_of empty early)) (run_among empty l)) (sym (acts-append empty early middle))
-        (headline_holds_among ours (acts_of empty early) (acts_of (run_among empty (acts_of empty early)) middle)
-        (subst (KeepsApart ours) (acts-append empty early middle) (apart_acts ours empty (early ++ middle) (front (early ++ middle) late split))));
-  }
-    where
-      start : IsAmong g h ours first empty
-      start = starts.is (runs.was sound) faithful rows kept ours
+  module _ (first ran : Running R J) (registry : R) (journal : J) (base : List ℕ) (said : List ActReportOf) (at : first.service ≡ base) (starts : Starts g h registry journal first) where
+    ran_held : (ours : Names) (held : List Row) (later : List ActOf) → AllByRecursion (IsApartFrom ours) later → RunsAmong g h first ran (map deeds.Holds held ++ later) said
+        → g.is_faithful registry → g.rows registry ≡ [] → h.entries journal ≡ fin.empty → IsSound g h ran → IsRunAmong g h ours base held later ran said
+    ran_held ours held later apart runs faithful rows kept sound = record {
+      base = runs.base ∙ at;
+      opened = runs.stays_open sound (starts.stays_open faithful);
+      journal_open = runs.journal_open sound (starts.journal_open (runs.was sound));
+      is = there;
+      told_so = runs.told_so sound empty start all_apart ∙ ap (λ b. act_reports (message_size b) empty (map deeds.Holds held ++ later)) at;
+      headline = headline_at ours later apart (held_by held) there.reached.begins.is_start;
+      from_empty = λ none. safe_run ours later apart;
+    }
+      where
+        start : IsAmong g h (scope_at ours empty) first empty
+        start = starts.is (runs.was sound) faithful rows kept ours
 
-      front : (early late : List ActOf) → early ++ late ≡ all → AllByRecursion (IsApartFrom ours) early
-      front early late split = all_front (IsApartFrom ours) early late (subst (AllByRecursion (IsApartFrom ours)) (sym split) apart)
+        all_apart : AreApart (scope_at ours empty) empty (map deeds.Holds held ++ later)
+        all_apart = held_apart ours empty held later apart
+
+        there : IsAmong g h (scope_at ours (held_by held)) ran (run_among (held_by held) (acts_of (held_by held) later))
+        there =
+            subst (λ v. IsAmong g h (scope_at ours (held_by held)) ran v) (held_then held later)
+            (subst (λ s. IsAmong g h s ran (run_among empty (acts_of empty (map deeds.Holds held ++ later)))) (held_moved ours empty held later apart)
+            (runs.is sound empty start all_apart))
+
+    pub ran_among : (all : List ActOf) → RunsAmong g h first ran all said → RunsAmongFromEmpty g h registry journal base all ran said
+    ran_among all runs faithful rows kept sound ours held later split apart =
+        ran_held ours held later apart (subst (λ l. RunsAmong g h first ran l said) (sym split) runs) faithful rows kept sound
 
   -- without others
   pub runs_alone : RunsAlone g h
   runs_alone registry journal base events ran said runs faithful rows kept sound =
-      let among = runs faithful rows kept sound all_names (alone_apart events) in
+      let among = runs faithful rows kept sound all_names [] (map deeds.Ours events) refl (alone_apart events) in
       let same : run_among empty (acts_of empty (map deeds.Ours events)) ≡ run empty (events_of events) = ap (run_among empty) (alone_acts empty events) ∙ without_others.runs empty (events_of events) in
       record {
         base = among.base;
         opened = among.opened;
         journal_open = among.journal_open;
-        is = is_of_ours g h ran (run empty (events_of events)) (subst (λ v. IsAmong g h all_names ran v) same among.is);
+        is = is_of_ours g h ran (run empty (events_of events)) (subst (λ v. IsAmong g h (scope_at all_names empty) ran v) same among.is);
         told_so = sym (alone_said said) ∙ ap ours_among among.told_so ∙ alone_reports (message_size base) empty events;
         safe = λ early late _. always_safe early;
         onward = λ early middle late _. always_onward early middle;

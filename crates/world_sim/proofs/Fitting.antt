@@ -2,7 +2,6 @@
 use Rattle.std.proofs.Common.{◌≡◌, ℕ, suc, ◌≤◌, Bool, true, false, cond, ◌==◌, List, [], ◌∷◌, length, Option, Some, None, Result, Ok, Err, refl, ap, sym, ◌∙◌, subst, arith, eqb-true}
 use Rattle.std.specs.Prelude.{ℤ, pos}
 use Rattle.std.specs.List.{AllByRecursion, slice_get}
-use Rattle.std.specs.Option.{option_map}
 use Rattle.std.proofs.lemmas.Bool.Decides.{nat_tests}
 use Rattle.std.specs.Str.{IsUtf8}
 use Rattle.std.proofs.lemmas.Option.{slice_get_within}
@@ -39,7 +38,7 @@ use Rattle.scim_message.specs.declared.refusals.Refusal.{Refusal}
 use Rattle.scim_message.specs.declared.refusals.Refusal.TheVariants.{NameFixed, NoSuchResource, NameTaken, OtherVersion, LimitReached}
 use Rattle.provider_core.specs.Searches.{listing}
 use Rattle.provider_core.specs.Stories.{Entry, Numbered, story, step, row_of, first_entry, renewed, found_entries, creating_entry, writing_entry, replacing_entry}
-use Rattle.provider_core.specs.Tables.{IsFact, IsWholeTable, entry_named}
+use Rattle.provider_core.specs.Tables.{IsFact, IsWholeTable}
 use Rattle.source_csv.specs.Records.{IsRow, row_name}
 use Rattle.source_csv.specs.declared.rows.Row.{Row}
 use Rattle.source_csv.specs.declared.rows.Row.TheVariants as rows
@@ -48,8 +47,7 @@ use Rattle.connector_core.specs.declared.learning.LearnFault.TheVariants as faul
 use Rattle.scim_filter.specs.Texts.{filter_text, nesting}
 use Rattle.connector_core.specs.History.{rows_of}
 use Rattle.connector_core.specs.Learning.{Finding, Shows, Shows_none, listed}
-use Rattle.world_model.specs.Safe.{Has, IsAt, IsImage, id_in}
-use Rattle.world_model.specs.Untroubled.{longest_body}
+use Rattle.world_model.specs.Safe.{Has, IsAt, IsImage}
 use Rattle.world_model.specs.World.{World, Message, Asked, Answered, empty, run}
 use Rattle.world_model.specs.Invariant.{Names, ShowsTruly}
 use Rattle.world_model.specs.Others.{Act, run_among, KeepsApart}
@@ -58,7 +56,7 @@ use Rattle.world_model.specs.Resetting.{Happening, run_through, StayApart, IsLaw
 use Rattle.world_model.proofs.Durable.{AskedFairly, IsShownVersion}
 use Rattle.world_model.proofs.Ranking.{record_ours, row_lawful}
 use Rattle.world_model.proofs.Searched.{filter_of, kind_of, search_is, search_said as row_found}
-use Rattle.world_model.proofs.Sizes.{image_size, quoted_most, user_name_short, group_name_short}
+use Rattle.world_model.proofs.Sizes.{quoted_most, user_name_short, group_name_short}
 use Rattle.scim_client.specs.AnswerLaws.{KeepsAnswerLimits}
 use Rattle.scim_client.specs.Answers.{AnswersSo, etag_of}
 use Rattle.scim_client.specs.Spelling.{IsWritable, KeepsLimits, IsIdText}
@@ -68,17 +66,13 @@ use Rattle.scim_message.specs.Answers.{read_body, said_if, is_error_status, erro
 use Rattle.scim_json.specs.Parsing.{json_of}
 use Rattle.scim_http.specs.Replies.{answer_text}
 use Rattle.http_text.specs.Message.{code_of}
-use Rattle.world_sim.specs.Fitting.{IsWithinLimits, IsFormed, MessagesKeepLimits, MessagesAreRead}
+use Rattle.world_sim.specs.Fitting.{IsWithinLimits, IsFormed, MessagesKeepLimits, MessagesAreRead, MessagesAreReadFrom}
 use Rattle.world_sim.specs.Messages.{message_text}
 use Rattle.world_sim.specs.Reading.{IsReadAs}
 use Rattle.world_sim.proofs.BodySizes.{IsBrief as IsBriefShown, shown_most, list_most, error_most, error_lawful}
 use Rattle.world_sim.proofs.TextSizes.{IsWithin}
-use Rattle.world_sim.proofs.Given.{IsHeard, IsPlain, always_spoken, always_spoken_among, heard, heard_through}
+use Rattle.world_sim.proofs.Given.{IsHeard, IsPlain, always_spoken, always_spoken_among, fit_empty, heard, heard_from, heard_through, image_most}
 use Rattle.world_sim.proofs.HeadSizes.{base_short, id_short, tag_short, keeps_limits, create_brief, replace_brief, search_brief, within, nothing_within, location_within, length_within, id_length, IsBriefAnswer, keeps_answer_limits}
-
-body_small : (kind : Kind) → longest_body kind ≤ 21000
-body_small kinds.User = omega arith
-body_small kinds.Group = omega arith
 
 -- ---- the search for a row
 
@@ -203,22 +197,12 @@ pub id_lawful : (n : ℕ) → IsId (id_text n)
 unfolding id_fault
 id_lawful n = grind (arith, nat_tests, id_length n)
 
--- the ids of a table are spelled from numbers
-id_spelled : (es : List Entry) (name : RecordName) (id : List ℕ) → id_in es name ≡ Some id → (n : ℕ) × (id ≡ id_text n)
-id_spelled es name id is = go (entry_named name es) is
-  where
-    go : (o : Option Numbered) → option_map (λ n. id_text n.number) o ≡ Some id → (n : ℕ) × (id ≡ id_text n)
-    go None was = absurd (cc)
-    go (Some n) was = (n.number, cc)
-
 module _ {ours : Names} (base : List ℕ) (is_base : IsBase base) (w : World) (q : IsHeard ours w) where
   short : length base ≤ 110
   short = base_short base is_base
 
-  image_most : (name : RecordName) (c : Content) → IsImage w.history w.entries name c → length (compact_text (content_data c)) ≤ 21000
-  image_most name c is =
-      let brief = image_size (id_in w.entries) (id_spelled w.entries) is.row c (row_lawful w.history q.lawful name is.row is.accepted) is.image in
-      omega (arith, brief, body_small (content_kind c))
+  image_short : (name : RecordName) (c : Content) → IsImage w.history w.entries name c → length (compact_text (content_data c)) ≤ 21000
+  image_short name c is = image_most w.history w.entries name c q.lawful is
 
   -- a record with an accepted row is ours
   own_record : (name : RecordName) (row : Row) → Has (rows_of w.history name) row → ours name ≡ true
@@ -242,14 +226,14 @@ module _ {ours : Names} (base : List ℕ) (is_base : IsBase base) (w : World) (q
       (subst (λ (c : Condition). Keeps (Replace id content (Tags (tag ∷ [])) c)) (sym plain) keeps)
 
   pub asked_fits : (request : Request) → AskedFairly w.history w.entries request → IsPlain request → Keeps request
-  asked_fits (Create content) asked plain = (tt, keeps_limits base is_base (Create content) (create_brief content (image_most (content_name content) content asked)))
+  asked_fits (Create content) asked plain = (tt, keeps_limits base is_base (Create content) (create_brief content (image_short (content_name content) content asked)))
   asked_fits (Retrieve kind id if_match if_none_match) asked plain = absurd asked
   asked_fits (Search kind wanted start count) asked plain =
       subst Keeps (sym asked.is) (search_fits base is_base asked.row (row_lawful w.history q.lawful (row_name asked.row) asked.row asked.accepted))
   asked_fits (Replace id content if_match if_none_match) asked plain =
       let own = own_record (content_name content) asked.image.row asked.image.accepted in
       let sizes = version_most (content_name content) id asked.tag asked.older own asked.version in
-      let brief = replace_brief id asked.tag content sizes.0 sizes.1 (image_most (content_name content) content asked.image) in
+      let brief = replace_brief id asked.tag content sizes.0 sizes.1 (image_short (content_name content) content asked.image) in
       replaced_fits id content if_match if_none_match asked.tag asked.alone plain
       ((omega arith, tt), keeps_limits base is_base (Replace id content (Tags (asked.tag ∷ [])) Always) brief)
 
@@ -274,7 +258,7 @@ module _ {ours : Names} (base : List ℕ) (is_base : IsBase base) (w : World) (q
 
   shown_short : (s : ShownRecord) → IsOwnFact s → length (compact_text (shown_data base s)) ≤ 22797
   shown_short s (fact, own) =
-      let content = image_most fact.entry.name s.content (q.imaged fact.place fact.turn fact.entry s.content fact.here own fact.held) in
+      let content = q.sized fact.place fact.turn fact.entry s.content fact.here own fact.held in
       omega (arith, shown_most base s (brief_shown s (fact, own)), content)
 
   location_brief : (s : ShownRecord) → IsOwnFact s → IsWithin 226 (Some (location_text base (content_kind s.content) s.id))
@@ -409,4 +393,8 @@ messages_are_read_among base ours all message is_base apart law has =
 pub messages_are_read_through : (base : List ℕ) (ours : Names) (all : List Happening) (message : Message) → IsBase base → StayApart ours all → AllByRecursion IsLawfulHappening all
     → Has (run_through empty all).messages message → IsFormed base message → IsReadAs (message_text base message) message
 messages_are_read_through base ours all message is_base apart law has =
-    is_read base is_base (run_through empty all) (heard_through ours all apart law) has.0 message has.1
+    is_read base is_base (run_through empty all) (heard_through ours empty all (fit_empty ours) apart law) has.0 message has.1
+
+-- from any start
+pub messages_are_read_from : MessagesAreReadFrom
+messages_are_read_from base ours start all message is_base fit apart law has = is_read base is_base (run_among start all) (heard_from ours start all fit apart law) has.0 message has.1

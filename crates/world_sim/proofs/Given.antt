@@ -1,19 +1,24 @@
 -- What is asked and answered in a run, also among others: no request is bound to the absence of a version, each reply is the answer
 -- of a whole table to a request that was asked before, and each accepted row is valid.
-use Rattle.std.proofs.Common.{◌≡◌, ℕ, Bool, true, false, cond, List, [], ◌∷◌, ◌++◌, Option, Some, None, Result, Ok, Err, inl, inr, refl, ap, sym, subst}
+use Rattle.std.proofs.Common.{arith, ◌≡◌, ℕ, ◌≤◌, Bool, true, false, cond, List, [], ◌∷◌, ◌++◌, length, map, Option, Some, None, Result, Ok, Err, inl, inr, refl, ap, sym, ◌∙◌, subst}
 use Rattle.std.specs.List.{AllByRecursion}
 use Rattle.std.specs.Option.{option_map}
 use Rattle.scim_key.proofs.RevisionLaws.{up_to_before}
 use Rattle.scim_key.specs.Revisions.{RevisionValue, ◌≼◌}
+use Rattle.scim_key.specs.Identifiers.{id_text}
+use Rattle.scim_key.specs.declared.records.Kind.{Kind}
+use Rattle.scim_key.specs.declared.records.Kind.TheVariants as kinds
 use Rattle.scim_key.specs.declared.records.RecordName.{RecordName}
-use Rattle.scim_resource.specs.Contents.{content_name}
+use Rattle.serde_json.specs.Written.{compact_text}
+use Rattle.scim_resource.specs.Contents.{content_kind, content_name}
+use Rattle.scim_resource.specs.Writing.{content_data}
 use Rattle.scim_version.specs.declared.conditions.Condition.TheVariants.{Always}
 use Rattle.scim_resource.specs.declared.contents.Content.{Content}
 use Rattle.scim_message.specs.declared.messages.Answer.{Answer}
 use Rattle.scim_message.specs.declared.messages.Request.{Request}
 use Rattle.scim_message.specs.declared.messages.Request.TheVariants.{Create, Retrieve, Search, Replace}
-use Rattle.provider_core.specs.Stories.{Entry, story, step}
-use Rattle.provider_core.specs.Tables.{IsWholeTable}
+use Rattle.provider_core.specs.Stories.{Entry, Numbered, story, step}
+use Rattle.provider_core.specs.Tables.{IsWholeTable, entry_named}
 use Rattle.provider_core.proofs.TableLaws.{at_push, at_more}
 use Rattle.source_csv.specs.Records.{IsRow}
 use Rattle.source_csv.specs.declared.rows.Row.{Row}
@@ -34,8 +39,8 @@ use Rattle.connector_core.specs.declared.knowledge.Known.{Known}
 use Rattle.connector_core.specs.declared.knowledge.Seen.{Seen}
 use Rattle.connector_core.specs.declared.knowledge.Seen.TheVariants.{Unknown, Absent, At}
 use Rattle.world_model.specs.World.{World, Message, Asked, Answered, Event, Changes, Sends, Delivers, Cuts, Restarts_provider, Restarts_connector, Doubts, sends, delivers, message_at, happens, judged, empty, run}
-use Rattle.world_model.specs.Safe.{IsAt, Has, IsImage, IsVersion}
-use Rattle.world_model.specs.Untroubled.{IsLawful}
+use Rattle.world_model.specs.Safe.{IsAt, Has, IsImage, IsVersion, id_in}
+use Rattle.world_model.specs.Untroubled.{IsLawful, longest_body}
 use Rattle.world_model.specs.Invariant.{AllOurs, AskedTruly, Names, InvariantOf, ShowsTruly, all_names}
 use Rattle.world_model.specs.Others.{Act, Ours, Theirs, acts, run_among, OfOurs, IsApart, KeepsApart}
 use Rattle.world_model.specs.Room.{IsLawfulAct}
@@ -44,9 +49,11 @@ use Rattle.world_model.proofs.Invariant.{act_inv, all_of_ours, message_there, no
 use Rattle.world_model.proofs.Durable.{AllAsked, AskedFairly, Durable, IsShownVersion, start_durable}
 use Rattle.world_model.proofs.Faring.{AllShort}
 use Rattle.world_model.proofs.InOrder.{empty_is_start}
-use Rattle.world_model.proofs.Ranking.{AllLawful}
-use Rattle.world_model.proofs.Resetting.{through_durable, undergoes_durable}
-use Rattle.world_model.proofs.Starting.{story_images, stories_short, through_ours}
+use Rattle.world_model.proofs.Ranking.{AllLawful, row_lawful}
+use Rattle.world_model.proofs.Resetting.{through_durable, through_fares, undergoes_durable}
+use Rattle.world_model.proofs.Sizes.{image_size}
+use Rattle.world_model.proofs.Starting.{through_ours, without_resets}
+use Rattle.world_sim.specs.Fitting.{IsFitStart, IsShort}
 
 -- ---- what is asked
 
@@ -170,8 +177,26 @@ event_lawful w (Doubts name) law lawful = lawful
 
 -- ---- what it takes
 
+body_small : (kind : Kind) → longest_body kind ≤ 21000
+body_small kinds.User = omega arith
+body_small kinds.Group = omega arith
+
+short_most : (c : Content) → IsShort c → length (compact_text (content_data c)) ≤ 21000
+short_most c short = omega (arith, short, body_small (content_kind c))
+
+-- the ids of a table are spelled from numbers
+id_spelled : (es : List Entry) (name : RecordName) (id : List ℕ) → id_in es name ≡ Some id → (n : ℕ) × (id ≡ id_text n)
+id_spelled es name id is = go (entry_named name es) is
+  where
+    go : (o : Option Numbered) → option_map (λ n. id_text n.number) o ≡ Some id → (n : ℕ) × (id ≡ id_text n)
+    go None was = absurd (cc)
+    go (Some n) was = (n.number, cc)
+
+pub image_most : (history : History) (es : List Entry) (name : RecordName) (c : Content) → AllLawful history → IsImage history es name c → length (compact_text (content_data c)) ≤ 21000
+image_most history es name c lawful is = short_most c (image_size (id_in es) (id_spelled es) is.row c (row_lawful history lawful name is.row is.accepted) is.image)
+
 -- What it takes for the messages to be read, if these records are ours: whatever was asked is fair, and what answers
--- show is a content of a story; each content of ours is an image
+-- show is a content of a story; each content of ours is as short as images are
 pub record IsHeard (ours : Names) (w : World) : Type 0 where
   pub mine : AllOurs ours w.history
   pub lawful : AllLawful w.history
@@ -179,7 +204,7 @@ pub record IsHeard (ours : Names) (w : World) : Type 0 where
   pub whole : IsWholeTable w.entries
   pub asked : AllAsked w.history w.entries w.messages
   pub shown : (i : ℕ) (request : Request) (answer : Answer) → IsAt w.messages i (Answered request answer) → ShowsTruly w.entries answer
-  pub imaged : (i j : ℕ) (e : Entry) (c : Content) → IsAt w.entries i e → ours e.name ≡ true → IsAt (story e) j c → IsImage w.history w.entries e.name c
+  pub sized : (i j : ℕ) (e : Entry) (c : Content) → IsAt w.entries i e → ours e.name ≡ true → IsAt (story e) j c → length (compact_text (content_data c)) ≤ 21000
   pub short : AllShort w.entries
 
 -- a version with a revision shows that revision
@@ -226,20 +251,54 @@ through_lawful w (Does (Ours event) ∷ later) law lawful = through_lawful (happ
 through_lawful w (Does (Theirs request) ∷ later) law lawful = through_lawful (acts w (Theirs request)) later law.1 lawful
 through_lawful w (Forgets these ∷ later) law lawful = through_lawful (undergoes w (Forgets these)) later law.1 lawful
 
-pub heard_through : (ours : Names) (all : List Happening) → StayApart ours all → AllByRecursion IsLawfulHappening all → IsHeard ours (run_through empty all)
-heard_through ours all apart law =
-    let first = start_durable empty empty_is_start in
-    let t = through_durable empty all first in
+none_said : (messages : List Message) → messages ≡ [] → AllSaid messages
+none_said messages none i message at = absurd (none_there (subst (λ (all : List Message). IsAt all i message) none at))
+  where
+    none_there : IsAt [] i message → ⊥
+    none_there there = cc
+
+pub heard_through : (ours : Names) (start : World) (all : List Happening) → IsFitStart ours start → StayApart ours all → AllByRecursion IsLawfulHappening all → IsHeard ours (run_through start all)
+heard_through ours start all fit apart law =
+    let w = run_through start all in
+    let first = start_durable start fit.is_start in
+    let t = through_durable start all first in
+    let fares = through_fares ours start all apart first in
+    let lawful : AllLawful w.history = through_lawful start all law (λ i row at. fit.is_start.in_order.lawful row (i, at)) in
     record {
-      mine = through_ours ours empty all apart (λ row none. absurd (cc none.1));
-      lawful = through_lawful empty all law (λ i row at. absurd (cc));
-      said = through_said empty all first (λ i message at. absurd (cc));
+      mine = through_ours ours start all apart fit.mine;
+      lawful = lawful;
+      said = through_said start all first (none_said start.messages fit.is_start.unsent);
       whole = t.whole;
       asked = t.asked;
       shown = t.shown;
-      imaged = story_images ours all apart;
-      short = stories_short ours all apart;
+      sized = λ i j e c at mine held. elim (fares.stories i e j c at mine held) [
+        | inl old ↦ short_most c (fit.short old.0 c (i, old.1) (ap ours old.2 ∙ mine) (j, old.3))
+        | inr image ↦ image_most w.history w.entries e.name c lawful image
+      ];
+      short = fares.short (λ i e at. fit.few e (i, at));
     }
+
+pub does_apart : (ours : Names) (all : List Act) → KeepsApart ours all → StayApart ours (map Does all)
+does_apart ours [] apart = tt
+does_apart ours (act ∷ all) apart = (apart.0, does_apart ours all apart.1)
+
+does_lawful : (all : List Act) → AllByRecursion IsLawfulAct all → AllByRecursion IsLawfulHappening (map Does all)
+does_lawful [] law = tt
+does_lawful (act ∷ all) law = (law.0, does_lawful all law.1)
+
+-- through acts alone
+pub heard_from : (ours : Names) (start : World) (all : List Act) → IsFitStart ours start → KeepsApart ours all → AllByRecursion IsLawfulAct all → IsHeard ours (run_among start all)
+heard_from ours start all fit apart law =
+    subst (λ (v : World). IsHeard ours v) (without_resets start all) (heard_through ours start (map Does all) fit (does_apart ours all apart) (does_lawful all law))
+
+-- nothing at all is such a start
+pub fit_empty : (ours : Names) → IsFitStart ours empty
+fit_empty ours = record {
+  is_start = empty_is_start;
+  mine = λ row none. absurd (cc none.1);
+  short = λ e c none mine held. absurd (cc none.1);
+  few = λ e none. absurd (cc none.1);
+}
 
 -- ---- every act
 
@@ -283,6 +342,6 @@ heard w q = record {
   whole = q.inv.kept.whole;
   asked = λ i request at. asked_fairly w.history w.entries request (q.inv.told i (Asked request) at);
   shown = λ i request answer at. q.inv.told i (Answered request answer) at;
-  imaged = q.inv.kept.imaged;
+  sized = λ i j e c at mine held. image_most w.history w.entries e.name c q.lawful (q.inv.kept.imaged i j e c at mine held);
   short = q.inv.kept.short;
 }

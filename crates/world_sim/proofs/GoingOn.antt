@@ -23,14 +23,13 @@ use Rattle.connector_core.specs.State.{Leaves, LeavesBook, State}
 use Rattle.connector_core.specs.declared.asking.Ask.{Ask}
 use Rattle.connector_core.specs.declared.asking.Ask.TheVariants as asks
 use Rattle.world_model.specs.World.{World, Event, Asked, Answered, Changes, Delivers, Doubts, Restarts_provider, Restarts_connector, Sends, arrives, message_at, names as world_names, sends}
-use Rattle.world_model.specs.Invariant.{Names}
 use Rattle.world_model.specs.Reports as model
 use Rattle.world_model.specs.Safe.{rows as world_rows}
 use Rattle.world_sim.specs.Events.{report_of}
 use Rattle.world_sim.specs.GoingOn.{FailsOn, GoesOn, IsButForEntries, IsButForRows, unknown_entries, unknown_rows}
 use Rattle.world_sim.specs.Messages.{messages_of, message_text, text_at, texts_of}
 use Rattle.world_sim.specs.Reading.{IsOrMemory}
-use Rattle.world_sim.specs.Running.{Apart, Arrives, FailsToArrive, Happens, HasBook, IsAmong, IsExcused, IsRequest, IsShutOff, IsSound, Mirrors, Posts, ReadsRegistry, Stays, if_restart, is_open, journal_in, known_in}
+use Rattle.world_sim.specs.Running.{Apart, Arrives, FailsToArrive, Happens, HasBook, IsAmong, IsExcused, IsRequest, IsShutOff, IsSound, Mirrors, Posts, ReadsRegistry, Scope, Stays, if_restart, is_open, journal_in, known_in}
 use Rattle.world_sim.specs.Sides.{CountsWorldFault, IsOpenedIn}
 use Rattle.world_sim.specs.declared.reading.ReadingFault.TheVariants.{Unread}
 use Rattle.world_sim.specs.declared.reports.Report.{Report}
@@ -74,11 +73,11 @@ module _ {R J : Type 0} (g : Registries R) (h : Journals J) (old : Running R J) 
 
   -- ---- the world as it was, but for what a store holds
 
-  rows_unknown : {ours : Names} (new : Running R J) (w : World) → new.connector ≡ old.connector → new.service ≡ old.service → new.sent.items ≡ old.sent.items → IsButForRows g h ours old w → IsButForRows g h ours new w
+  rows_unknown : {scope : Scope} (new : Running R J) (w : World) → new.connector ≡ old.connector → new.service ≡ old.service → new.sent.items ≡ old.sent.items → IsButForRows g h scope old w → IsButForRows g h scope new w
   rows_unknown new w connector base sent is = still_there (unknown_rows g) h old new w connector base sent (λ none. absurd none) (λ found none. absurd none) is
 
-  entries_unknown : {ours : Names} (new : Running R J) (w : World) → new.provider ≡ old.provider → known_in new.connector ≡ known_in old.connector → new.service ≡ old.service → new.sent.items ≡ old.sent.items
-      → IsButForEntries g h ours old w → IsButForEntries g h ours new w
+  entries_unknown : {scope : Scope} (new : Running R J) (w : World) → new.provider ≡ old.provider → known_in new.connector ≡ known_in old.connector → new.service ≡ old.service → new.sent.items ≡ old.sent.items
+      → IsButForEntries g h scope old w → IsButForEntries g h scope new w
   entries_unknown new w provider known base sent is = is_still g (unknown_entries h) old new w base is (record {
     rows = subst (λ p. g.is_faithful p → g.rows p ≡ world_rows w) (sym provider) is.mirrors.rows;
     found = subst (λ p. (found : List StoredRecord) → g.may_hold p found → found ≡ world_rows w) (sym provider) is.mirrors.found;
@@ -92,7 +91,7 @@ module _ {R J : Type 0} (g : Registries R) (h : Journals J) (old : Running R J) 
 
   -- ---- the connector is unchanged, so its journal holds what it held
 
-  forget : {ours : Names} (w : World) → IsAmong g h ours old w → IsButForEntries g h ours old w
+  forget : {scope : Scope} (w : World) → IsAmong g h scope old w → IsButForEntries g h scope old w
   forget w is = record {
     mirrors = record {
       rows = is.mirrors.rows;
@@ -108,7 +107,7 @@ module _ {R J : Type 0} (g : Registries R) (h : Journals J) (old : Running R J) 
     reached = is.reached;
   }
 
-  remember : {ours : Names} (new : Running R J) (w v : World) → new.connector ≡ old.connector → v.book ≡ w.book → world_names v ≡ world_names w → IsAmong g h ours old w → Mirrors g (unknown_entries h) new v → Mirrors g h new v
+  remember : {scope : Scope} (new : Running R J) (w v : World) → new.connector ≡ old.connector → v.book ≡ w.book → world_names v ≡ world_names w → IsAmong g h scope old w → Mirrors g (unknown_entries h) new v → Mirrors g h new v
   remember new w v connector book names is m = record {
     rows = m.rows;
     found = m.found;

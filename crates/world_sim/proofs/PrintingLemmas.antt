@@ -9,12 +9,12 @@ use Rattle.std.specs.List.{FoldsTo}
 use Rattle.scim_key.specs.declared.records.RecordName.{RecordName}
 use Rattle.provider_core.specs.declared.registry.Registry.{Ghosts as Registries}
 use Rattle.journal_core.specs.declared.journals.Journal.{Ghosts as Journals}
-use Rattle.world_model.specs.Invariant.{Names, all_names}
+use Rattle.world_model.specs.Invariant.{all_names}
 use Rattle.world_model.specs.World.{World, Event, empty, names as world_names, run}
 use Rattle.world_sim.specs.Following.{RunsTelling}
 use Rattle.world_sim.specs.Lines.{report_text}
 use Rattle.world_sim.specs.Printing.{Ends, EndsPrinting, Prints, PrintsReport, Reaches, SettlesIf, ShowsAll, ShowsEach, line_of, lines_of, printed_reports, report_line, report_lines, settled_lines, view_lines}
-use Rattle.world_sim.specs.Running.{HasBook, Is, IsAmong, IsSound, is_open, names_in}
+use Rattle.world_sim.specs.Running.{HasBook, Is, IsAmong, IsSound, Scope, from_empty, is_open, names_in}
 use Rattle.world_sim.specs.Views.{Looks, Shows, view}
 use Rattle.world_sim.specs.declared.following.TellingFault.{TellingFault}
 use Rattle.world_sim.specs.declared.printing.Printed.{Printed}
@@ -69,14 +69,14 @@ module _ {R J : Type 0} (g : Registries R) (h : Journals J) where
         shown = λ sound w is. all_of sound w is;
       })
     where
-      all_of : IsSound g h new → {ours : Names} (w : World) → IsAmong g h ours old w → views ++ one ∷ [] ≡ map (view w) (take i names ++ name ∷ [])
-      all_of sound {ours} w is =
+      all_of : IsSound g h new → {scope : Scope} (w : World) → IsAmong g h scope old w → views ++ one ∷ [] ≡ map (view w) (take i names ++ name ∷ [])
+      all_of sound {scope} w is =
           ap (λ vs. vs ++ one ∷ []) (far.shown (looks.was sound) w is)
-          ∙ ap (λ v. map (view w) (take i names) ++ v ∷ []) (shows sound ours w (far.is (looks.was sound) w is))
+          ∙ ap (λ v. map (view w) (take i names) ++ v ∷ []) (shows sound scope w (far.is (looks.was sound) w is))
           ∙ sym (map_push (view w) (take i names) name)
 
   -- the names of an open connector are those of each world that runs
-  pub names_are : {ours : Names} (r : Running R J) (w : World) → is_open r.connector ≡ true → IsAmong g h ours r w → names_in h r.connector ≡ world_names w
+  pub names_are : {scope : Scope} (r : Running R J) (w : World) → is_open r.connector ≡ true → IsAmong g h scope r w → names_in h r.connector ≡ world_names w
   names_are r w opened is = of_side r.connector opened is.mirrors.book
     where
       of_side : (side : Side J) → is_open side ≡ true → HasBook side w.book (world_names w) → names_in h side ≡ world_names w
@@ -101,11 +101,11 @@ module _ {R J : Type 0} (g : Registries R) (h : Journals J) where
   settled_was false old new None settles sound = subst (λ r. IsSound g h r) settles sound
 
   settled_reaches : (asked : Bool) (old new : Running R J) (count : Option Count) → SettlesIf g h asked old new count → IsSound g h new → (w : World) → Is g h old w
-      → (v : World) × Reaches w count v × IsAmong g h all_names new v
+      → (v : World) × Reaches w count v × IsAmong g h (from_empty all_names) new v
   settled_reaches true old new (Some count) settles sound w is = (run w settles.done.events, settles.settling sound w is, done_is g h settles.done sound w (is_among g h old w is))
   settled_reaches true old new None settles sound w is = absurd settles
   settled_reaches false old new (Some count) settles sound w is = absurd settles
-  settled_reaches false old new None settles sound w is = (w, refl, subst (λ r. IsAmong g h all_names r w) (sym settles) (is_among g h old w is))
+  settled_reaches false old new None settles sound w is = (w, refl, subst (λ r. IsAmong g h (from_empty all_names) r w) (sym settles) (is_among g h old w is))
 
   pub counted : (asked : Bool) (old new : Running R J) (count : Option Count) → SettlesIf g h asked old new count → is_some count ≡ asked
   counted true old new (Some count) settles = refl

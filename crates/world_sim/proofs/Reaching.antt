@@ -17,12 +17,13 @@ use Rattle.world_model.proofs.Others.{without_others}
 use Rattle.scim_version.specs.declared.conditions.Condition.{Condition}
 use Rattle.scim_message.specs.declared.messages.Request.{Request}
 use Rattle.scim_message.specs.declared.messages.Request.TheVariants.{Create, Retrieve, Search, Replace}
-use Rattle.world_sim.specs.Fitting.{IsFormed}
+use Rattle.world_sim.specs.Fitting.{IsFitStart, IsFormed}
 use Rattle.world_sim.specs.Messages.{message_text, messages_of, text_at, texts_of}
 use Rattle.world_sim.specs.Reading.{IsReadAs}
-use Rattle.world_sim.specs.Running.{Is, IsAlone, IsAmong, IsReached, IsReachedAmong, Mirrors}
+use Rattle.world_sim.specs.Running.{Is, IsAlone, IsAmong, IsReached, IsReachedAmong, Mirrors, Scope, from_empty}
 use Rattle.world_sim.specs.declared.worlds.World.{World as Running}
-use Rattle.world_sim.proofs.Fitting.{messages_are_read_among}
+use Rattle.world_sim.proofs.Fitting.{messages_are_read_from}
+use Rattle.world_sim.proofs.Given.{fit_empty}
 
 pub at_map : {X Y : Type 0} (f : X → Y) (xs : List X) (place : ℕ) → option_map f (slice_get xs place) ≡ slice_get (map f xs) place
 at_map f [] place = refl
@@ -42,13 +43,18 @@ run_among-more w [] act = refl
 run_among-more w (a ∷ all) act = run_among-more (acts w a) all act
 
 -- one more act
-pub reaches : {ours : Names} (w : World) (act : Act) → IsApart ours act → IsLawfulAct act → IsReachedAmong ours w → IsReachedAmong ours (acts w act)
-reaches {ours} w act apart law from = record {
+pub reaches : {scope : Scope} (w : World) (act : Act) → IsApart scope.ours act → IsLawfulAct act → IsReachedAmong scope w → IsReachedAmong scope (acts w act)
+reaches {scope} w act apart law from = record {
+  begins = from.begins;
   acts = from.acts ++ act ∷ [];
-  apart = all_more (IsApart ours) from.acts act from.apart apart;
+  apart = all_more (IsApart scope.ours) from.acts act from.apart apart;
   lawful = all_more IsLawfulAct from.acts act from.lawful law;
-  is = run_among-more empty from.acts act ∙ ap (λ v. acts v act) from.is;
+  is = run_among-more scope.start from.acts act ∙ ap (λ v. acts v act) from.is;
 }
+
+-- a start is reached by no act
+pub begun : (ours : Names) (start : World) → IsFitStart ours start → IsReachedAmong (record { ours = ours; start = start }) start
+begun ours start fit = record { begins = fit; acts = []; apart = tt; lawful = tt; is = refl }
 
 -- ---- without others
 
@@ -87,11 +93,12 @@ ours_same w [] apart = refl
 ours_same w (Ours event ∷ all) apart = ours_same (happens w event) all apart.1
 ours_same w (Theirs request ∷ all) apart = ours_same w all apart.1 ∙ ap (λ v. run_among v all) (sym (reads_only w request apart.0))
 
-pub alone_reached : (w : World) → IsReachedAmong all_names w → IsReached w
+pub alone_reached : (w : World) → IsReachedAmong (from_empty all_names) w → IsReached w
 alone_reached w r = record { events = ours_in r.acts; lawful = ours_lawful r.acts r.lawful; is = ours_same empty r.acts r.apart ∙ r.is }
 
-pub among_reached : (w : World) → IsReached w → IsReachedAmong all_names w
+pub among_reached : (w : World) → IsReached w → IsReachedAmong (from_empty all_names) w
 among_reached w r = record {
+  begins = fit_empty all_names;
   acts = map Ours r.events;
   apart = without_others.apart r.events;
   lawful = room_without_others.lawful r.events r.lawful;
@@ -120,38 +127,38 @@ formed_same old new messages same all message has = subst (λ b. IsFormed b mess
 
 module _ {R J : Type 0} (g : Registries R) (h : Journals J) where
   -- without others
-  pub is_among : (r : Running R J) (w : World) → Is g h r w → IsAmong g h all_names r w
+  pub is_among : (r : Running R J) (w : World) → Is g h r w → IsAmong g h (from_empty all_names) r w
   is_among r w is = record { mirrors = is.mirrors; base = is.base; reached = among_reached w is.reached }
 
-  pub is_of_ours : (r : Running R J) (w : World) → IsAmong g h all_names r w → Is g h r w
+  pub is_of_ours : (r : Running R J) (w : World) → IsAmong g h (from_empty all_names) r w → Is g h r w
   is_of_ours r w is = record { mirrors = is.mirrors; base = is.base; reached = alone_reached w is.reached }
 
   pub is_alone : IsAlone g h
   is_alone r w = (is_among r w, is_of_ours r w)
 
   -- an empty world at a valid base
-  pub is_empty : (ours : Names) (r : Running R J) → IsBase r.service → Mirrors g h r empty → IsAmong g h ours r empty
-  is_empty ours r base mirrors = record { mirrors = mirrors; base = base; reached = record { acts = []; apart = tt; lawful = tt; is = refl } }
+  pub is_empty : (ours : Names) (r : Running R J) → IsBase r.service → Mirrors g h r empty → IsAmong g h (from_empty ours) r empty
+  is_empty ours r base mirrors = record { mirrors = mirrors; base = base; reached = begun ours empty (fit_empty ours) }
 
   pub formed_none : (r : Running R J) (message : Message) → Has [] message → IsFormed r.service message
   formed_none r message has = none_formed r.service has.0 message has.1
 
   -- in the same world, told otherwise
-  pub is_at : {ours : Names} (r : Running R J) (w v : World) → v ≡ w → IsAmong g h ours r w → IsAmong g h ours r v
-  is_at {ours} r w v same is = subst (λ u. IsAmong g h ours r u) (sym same) is
+  pub is_at : {scope : Scope} (r : Running R J) (w v : World) → v ≡ w → IsAmong g h scope r w → IsAmong g h scope r v
+  is_at {scope} r w v same is = subst (λ u. IsAmong g h scope r u) (sym same) is
 
   module _ (old : Running R J) where
     -- what has the parts of a world after a valid event is that world
-    pub is_after : {ours : Names} (new : Running R J) (w : World) (event : Event) → OfOurs ours event → IsLawful event → new.service ≡ old.service → IsAmong g h ours old w → Mirrors g h new (happens w event)
-        → IsAmong g h ours new (happens w event)
+    pub is_after : {scope : Scope} (new : Running R J) (w : World) (event : Event) → OfOurs scope.ours event → IsLawful event → new.service ≡ old.service → IsAmong g h scope old w → Mirrors g h new (happens w event)
+        → IsAmong g h scope new (happens w event)
     is_after new w event own law same is mirrors = record { mirrors = mirrors; base = subst IsBase (sym same) is.base; reached = reaches w (Ours event) own law is.reached }
 
-    pub is_still : {ours : Names} (new : Running R J) (w : World) → new.service ≡ old.service → IsAmong g h ours old w → Mirrors g h new w → IsAmong g h ours new w
+    pub is_still : {scope : Scope} (new : Running R J) (w : World) → new.service ≡ old.service → IsAmong g h scope old w → Mirrors g h new w → IsAmong g h scope new w
     is_still new w same is mirrors = record { mirrors = mirrors; base = subst IsBase (sym same) is.base; reached = is.reached }
 
     -- the bytes with a number are those of the message with that number
     pub text_is : (number : ℕ) (message : Message) (bytes : List ℕ) → message_at (messages_of old.sent.items) number ≡ Some message → text_at (texts_of old.sent.items) number ≡ Some bytes
-        → {ours : Names} (w : World) → IsAmong g h ours old w → bytes ≡ message_text old.service message
+        → {scope : Scope} (w : World) → IsAmong g h scope old w → bytes ≡ message_text old.service message
     text_is zero message bytes said text w is = absurd (cc said)
     text_is (suc place) message bytes said text w is =
         let m = is.mirrors in
@@ -162,10 +169,10 @@ module _ {R J : Type 0} (g : Registries R) (h : Journals J) where
 
     -- and they are read as just that message
     pub sent_is_read : (number : ℕ) (message : Message) (bytes : List ℕ) → message_at (messages_of old.sent.items) number ≡ Some message → text_at (texts_of old.sent.items) number ≡ Some bytes
-        → {ours : Names} (w : World) → IsAmong g h ours old w → IsReadAs bytes message
+        → {scope : Scope} (w : World) → IsAmong g h scope old w → IsReadAs bytes message
     sent_is_read zero message bytes said text w is = absurd (cc said)
-    sent_is_read (suc place) message bytes said text {ours} w is =
+    sent_is_read (suc place) message bytes said text {scope} w is =
         let there : slice_get w.messages place ≡ Some message = ap (λ ms. slice_get ms place) (sym is.mirrors.messages) ∙ said in
-        let ran : slice_get (run_among empty is.reached.acts).messages place ≡ Some message = ap (λ (v : World). slice_get v.messages place) is.reached.is ∙ there in
+        let ran : slice_get (run_among scope.start is.reached.acts).messages place ≡ Some message = ap (λ (v : World). slice_get v.messages place) is.reached.is ∙ there in
         subst (λ (t : List ℕ). IsReadAs t message) (sym (text_is (suc place) message bytes said text w is))
-        (messages_are_read_among old.service ours is.reached.acts message is.base is.reached.apart is.reached.lawful (place, ran) (is.mirrors.formed message (place, there)))
+        (messages_are_read_from old.service scope.ours scope.start is.reached.acts message is.base is.reached.begins is.reached.apart is.reached.lawful (place, ran) (is.mirrors.formed message (place, there)))

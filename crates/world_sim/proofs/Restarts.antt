@@ -24,12 +24,11 @@ use Rattle.connector_core.specs.Maps.{book_of}
 use Rattle.connector_core.specs.State.{AreOf, IsOpened, Leaves, LeavesBook, LeavesOneOf, State, entry_of, opened}
 use Rattle.connector_core.specs.declared.knowledge.Known.{Known}
 use Rattle.world_model.specs.World.{World, Event, Asked, Answered, Changes, Delivers, Restarts_provider, Restarts_connector, arrives, delivers, happens, message_at, names as world_names}
-use Rattle.world_model.specs.Invariant.{Names}
 use Rattle.world_model.specs.Reports as model
 use Rattle.world_model.specs.Safe.{rows as world_rows}
 use Rattle.world_sim.specs.Events.{report_of, world_fault}
 use Rattle.world_sim.specs.Messages.{messages_of, text_at, texts_of, message_text}
-use Rattle.world_sim.specs.Running.{IsAmong, Happens, Fails, FailsToArrive, HasBook, HoldsOneOf, IsExcused, IsKnown, IsOpenTo, IsShutOff, Stays, is_open, journal_in, if_restart}
+use Rattle.world_sim.specs.Running.{Fails, FailsToArrive, Happens, HasBook, HoldsOneOf, IsAmong, IsExcused, IsKnown, IsOpenTo, IsShutOff, Scope, Stays, is_open, journal_in, if_restart}
 use Rattle.world_sim.specs.Sides.{CountsWorldFault, IsOpenedIn}
 use Rattle.world_sim.specs.declared.reports.Report.{Report}
 use Rattle.world_sim.specs.declared.reports.WorldFault.{WorldFault}
@@ -66,9 +65,9 @@ module _ {R J : Type 0} (g : Registries R) (h : Journals J) (old : Running R J) 
   -- ---- restarts
 
   -- what runs is the world after a restart of the connector, if the side has its book
-  pub restarted : (side : Side J) {ours : Names} (w : World) → IsAmong g h ours old w → HasBook side (reopened w.book) (world_names w)
+  pub restarted : (side : Side J) {scope : Scope} (w : World) → IsAmong g h scope old w → HasBook side (reopened w.book) (world_names w)
       → ((found : EntryMap) → h.may_hold (journal_in side) found → h.may_hold (journal_in old.connector) found)
-      → IsAmong g h ours (record old { connector = side }) (happens w Restarts_connector)
+      → IsAmong g h scope (record old { connector = side }) (happens w Restarts_connector)
   restarted side w is book leaves = is_after g h old (record old { connector = side }) w Restarts_connector tt tt refl is (record {
     rows = is.mirrors.rows;
     found = is.mirrors.found;
@@ -81,7 +80,7 @@ module _ {R J : Type 0} (g : Registries R) (h : Journals J) (old : Running R J) 
   })
 
   -- an opened connector has the book of the entries that were found
-  opened_book : (connector : State J) {ours : Names} (w : World) → IsAmong g h ours old w → IsOpened (h.entries connector.journal) connector.book → h.may_hold (journal_in old.connector) (h.entries connector.journal)
+  opened_book : (connector : State J) {scope : Scope} (w : World) → IsAmong g h scope old w → IsOpened (h.entries connector.journal) connector.book → h.may_hold (journal_in old.connector) (h.entries connector.journal)
       → HasBook (Open connector) (reopened w.book) (world_names w)
   opened_book connector w is found holds = (λ i name. same name i, found.names ∙ are.listed)
     where
@@ -113,8 +112,8 @@ module _ {R J : Type 0} (g : Registries R) (h : Journals J) (old : Running R J) 
   counted_excuse side event Memory counted = (refl, counted)
 
   -- what may be found was there before
-  holds_before : {ours : Names} (new : Running R J) (w v : World) → ((found : List StoredRecord) → g.may_hold new.provider found → g.may_hold old.provider found)
-      → ((found : EntryMap) → h.may_hold (journal_in new.connector) found → h.may_hold (journal_in old.connector) found) → IsAmong g h ours old w → HoldsOneOf g h new w v
+  holds_before : {scope : Scope} (new : Running R J) (w v : World) → ((found : List StoredRecord) → g.may_hold new.provider found → g.may_hold old.provider found)
+      → ((found : EntryMap) → h.may_hold (journal_in new.connector) found → h.may_hold (journal_in old.connector) found) → IsAmong g h scope old w → HoldsOneOf g h new w v
   holds_before new w v rows entries is = record {
     rows = λ found holds. inl (is.mirrors.found found (rows found holds));
     entries = λ found holds. inl (is.mirrors.kept found (entries found holds));
@@ -136,9 +135,9 @@ module _ {R J : Type 0} (g : Registries R) (h : Journals J) (old : Running R J) 
   }
 
   -- the registry was opened again, or was tried to be: it holds the rows of the world
-  reopened_registry : {ours : Names} (registry : R) → ((found : List StoredRecord) → g.may_hold registry found → (w : World) → IsAmong g h ours old w → found ≡ world_rows w)
+  reopened_registry : {scope : Scope} (registry : R) → ((found : List StoredRecord) → g.may_hold registry found → (w : World) → IsAmong g h scope old w → found ≡ world_rows w)
       → (g.is_faithful registry → g.may_hold registry (g.rows registry))
-      → (openness : Bool) → (w : World) → IsAmong g h ours old w → IsAmong g h ours (record old { provider = registry; is_provider_open = openness }) w
+      → (openness : Bool) → (w : World) → IsAmong g h scope old w → IsAmong g h scope (record old { provider = registry; is_provider_open = openness }) w
   reopened_registry registry finds stays openness w is = is_still g h old (record old { provider = registry; is_provider_open = openness }) w refl is (record {
     rows = λ faithful. finds (g.rows registry) (stays faithful) w is;
     found = λ found holds. finds found holds w is;
@@ -185,7 +184,7 @@ module _ {R J : Type 0} (g : Registries R) (h : Journals J) (old : Running R J) 
 
   -- ---- faults
 
-  pub staying : (new : Running R J) → Stays old new → {ours : Names} (w : World) → IsAmong g h ours old w → IsAmong g h ours new w
+  pub staying : (new : Running R J) → Stays old new → {scope : Scope} (w : World) → IsAmong g h scope old w → IsAmong g h scope new w
   staying new s w is = is_still g h old new w s.base is (record {
     rows = subst (λ p. g.is_faithful p → g.rows p ≡ world_rows w) (sym s.provider) is.mirrors.rows;
     found = subst (λ p. (found : List StoredRecord) → g.may_hold p found → found ≡ world_rows w) (sym s.provider) is.mirrors.found;
@@ -221,7 +220,7 @@ module _ {R J : Type 0} (g : Registries R) (h : Journals J) (old : Running R J) 
         → (h.is_honest after.journal → LeavesBook h before → LeavesOneOf h after.journal (book_of before.book) later (keys before.book) more)
         → CountsWorldFault (h.faults before.journal) (h.faults after.journal) fault
         → (IsKnown g h old (record old { connector = Open after }) event → h.is_faithful after.journal)
-        → ((ours : Names) (w : World) → IsAmong g h ours old w → later ≡ (happens w event).book) → ((ours : Names) (w : World) → IsAmong g h ours old w → more ≡ world_names (happens w event))
+        → ((scope : Scope) (w : World) → IsAmong g h scope old w → later ≡ (happens w event).book) → ((scope : Scope) (w : World) → IsAmong g h scope old w → more ≡ world_names (happens w event))
         → Fails g h old (record old { connector = Open after }) event fault
     fails_at_journal still was stays leaves counted known_open book_is names_are = record {
       was = λ sound. record { registry = sound.registry; journal = was_honest g h old before e (was sound.journal) };
@@ -252,11 +251,11 @@ module _ {R J : Type 0} (g : Registries R) (h : Journals J) (old : Running R J) 
       excused = counted_excuse (Open after) event fault (subst (λ side. CountsWorldFault (h.faults (journal_in side)) (h.faults after.journal) fault) (sym e) counted);
     }
       where
-        book_of_world : {ours : Names} (w : World) → IsAmong g h ours old w → later ≡ (happens w event).book
-        book_of_world {ours} w is = book_is ours w is
+        book_of_world : {scope : Scope} (w : World) → IsAmong g h scope old w → later ≡ (happens w event).book
+        book_of_world {scope} w is = book_is scope w is
 
-        names_of_world : {ours : Names} (w : World) → IsAmong g h ours old w → more ≡ world_names (happens w event)
-        names_of_world {ours} w is = names_are ours w is
+        names_of_world : {scope : Scope} (w : World) → IsAmong g h scope old w → more ≡ world_names (happens w event)
+        names_of_world {scope} w is = names_are scope w is
 
   -- a row wasn't accepted for a fault
   pub fails_to_change : (before after : State J) (row copy : Row) (result : Result Report WorldFault) → copy ≡ row → old.connector ≡ Open before → OnErr result (after.book ≡ before.book)
@@ -271,7 +270,7 @@ module _ {R J : Type 0} (g : Registries R) (h : Journals J) (old : Running R J) 
       subst (λ r. Fails g h old (record old { connector = Open after }) (Changes r) fault) is
       (fails_at_journal before after (Changes copy) fault (book_after (book_of before.book) copy (judging (book_of before.book) (keys before.book) copy))
       (keys (accepted_map before.book copy (judging (book_of before.book) (keys before.book) copy))) e same (λ w. refl) was stays (λ honest left. (leaves honest left).failed) counted (λ known. known)
-      (λ ours w is. changed_book g h old before copy e w is) (λ ours w is. names_after_row g h old before copy e w is))
+      (λ scope w is. changed_book g h old before copy e w is) (λ scope w is. names_after_row g h old before copy e w is))
 
   -- nothing was learnt from an answer for a fault
   pub fails_to_learn : (before after : State J) (number : ℕ) (request : Request) (answer : Answer) (bytes : List ℕ) (result : Result Report WorldFault)
@@ -293,15 +292,15 @@ module _ {R J : Type 0} (g : Registries R) (h : Journals J) (old : Running R J) 
     excused = counted_excuse (Open after) (Delivers number) fault (subst (λ side. CountsWorldFault (h.faults (journal_in side)) (h.faults after.journal) fault) (sym e) counted);
   }
     where
-      said_at : {ours : Names} (w : World) → IsAmong g h ours old w → message_at w.messages number ≡ Some (Answered request answer)
+      said_at : {scope : Scope} (w : World) → IsAmong g h scope old w → message_at w.messages number ≡ Some (Answered request answer)
       said_at w is = message_same g h old number (Some (Answered request answer)) sent w is
 
-      given : {ours : Names} (w : World) → IsAmong g h ours old w → Fails g h old (record old { connector = Open after }) (Delivers number) fault
+      given : {scope : Scope} (w : World) → IsAmong g h scope old w → Fails g h old (record old { connector = Open after }) (Delivers number) fault
       given w is = fails_at_journal before after (Delivers number) fault (after_learning (book_of before.book) (learn (book_of before.book) request answer)) (keys before.book) e same (λ v. refl) was stays
           (λ honest left. (leaves answer (answer_read g h old number request answer bytes sent text w is) honest left).failed) counted
           (λ known. subst (λ m. IsOpenTo g h (record old { connector = Open after }) m) sent known)
-          (λ ours v here. learnt_book g h old before request answer e v here ∙ ap (λ m. (delivers v m).book) (sym (said_at v here)))
-          (λ ours v here. here_names g h old before e v here ∙ ap (λ m. world_names (delivers v m)) (sym (said_at v here)))
+          (λ scope v here. learnt_book g h old before request answer e v here ∙ ap (λ m. (delivers v m).book) (sym (said_at v here)))
+          (λ scope v here. here_names g h old before e v here ∙ ap (λ m. world_names (delivers v m)) (sym (said_at v here)))
 
   -- ---- a request isn't answered
 
@@ -310,9 +309,9 @@ module _ {R J : Type 0} (g : Registries R) (h : Journals J) (old : Running R J) 
   excuse new number Memory connector counted = (counted, ap (λ side. h.faults (journal_in side)) connector)
 
   -- the world is as it was, if its rows are
-  pub still_there : {ours : Names} (new : Running R J) (w : World) → new.connector ≡ old.connector → new.service ≡ old.service → new.sent.items ≡ old.sent.items
+  pub still_there : {scope : Scope} (new : Running R J) (w : World) → new.connector ≡ old.connector → new.service ≡ old.service → new.sent.items ≡ old.sent.items
       → (g.is_faithful new.provider → g.rows new.provider ≡ world_rows w) → ((found : List StoredRecord) → g.may_hold new.provider found → found ≡ world_rows w)
-      → IsAmong g h ours old w → IsAmong g h ours new w
+      → IsAmong g h scope old w → IsAmong g h scope new w
   still_there new w connector base sent rows finds is = is_still g h old new w base is (record {
     rows = rows;
     found = finds;
@@ -366,10 +365,10 @@ module _ {R J : Type 0} (g : Registries R) (h : Journals J) (old : Running R J) 
     excused = λ number. excuse new number fault connector counted;
   }
     where
-      held : g.is_faithful mid → {ours : Names} (w : World) → IsAmong g h ours old w → g.rows mid ≡ rows_of w.entries
+      held : g.is_faithful mid → {scope : Scope} (w : World) → IsAmong g h scope old w → g.rows mid ≡ rows_of w.entries
       held faithful w is = same faithful ∙ is.mirrors.rows (was_open faithful)
 
-      rows_same : g.is_faithful mid → {ours : Names} (w : World) → IsAmong g h ours old w → changed_rows (g.rows mid) pending.change ≡ rows_of (step w.entries request).entries
+      rows_same : g.is_faithful mid → {scope : Scope} (w : World) → IsAmong g h scope old w → changed_rows (g.rows mid) pending.change ≡ rows_of (step w.entries request).entries
       rows_same faithful w is = ap (λ rows. changed_rows rows pending.change) (held faithful w is)
           ∙ ap (λ p. changed_rows (rows_of w.entries) p.change) (out faithful ∙ ap (λ rows. outcome rows request) (is.mirrors.rows (was_open faithful)))
           ∙ (rows_follow_stories w.entries request is.mirrors.table).rows

@@ -27,7 +27,7 @@ use Rattle.world_model.proofs.OneWay.{leads_on}
 use Rattle.world_model.proofs.Settling.{settles_among}
 use Rattle.world_sim.specs.Events.{report_of}
 use Rattle.world_sim.specs.Messages.{message_size, messages_of}
-use Rattle.world_sim.specs.Running.{Fails, Happens, HasBook, IsAmong, IsExcused, IsKnown, IsOpenTo, IsReached, IsReachedAmong, IsSound, Runs, if_restart, is_open, journal_in, names_in}
+use Rattle.world_sim.specs.Running.{Fails, Happens, HasBook, IsAmong, IsExcused, IsKnown, IsOpenTo, IsReached, IsReachedAmong, IsSound, Runs, Scope, if_restart, is_open, journal_in, names_in}
 use Rattle.world_sim.specs.Settling.{IsSendOrDeliver, IsSettling, MaySettle, SendsAndDelivers, Settles, SettlesRecord, Stops, TakesStep}
 use Rattle.world_sim.specs.Views.{IsNoName}
 use Rattle.world_sim.specs.declared.reports.Report.{Report}
@@ -125,16 +125,22 @@ nobody w = []
 nobody_leaves : (ours : Names) → LeavesRoom ours nobody
 nobody_leaves ours = record { alone = λ w. tt; room = λ w room. room }
 
-may_settle : {ours : Names} (w : World) → HasRoom w → IsReachedAmong ours w → MaySettle w
-may_settle {ours} w room reached =
-    let (count, v, turns, settled) = settles_among ours reached.acts nobody reached.apart reached.lawful (subst HasRoom (sym reached.is) room) (nobody_leaves ours) in
-    subst MaySettle reached.is (count, v, record { turns = (room_without_others.turns (run_among empty reached.acts) (names (run_among empty reached.acts)) count v).1 turns; settled = settled })
+-- from the empty start
+acts_lead : {scope : Scope} (w : World) → scope.start ≡ empty → (reached : IsReachedAmong scope w) → run_among empty reached.acts ≡ w
+acts_lead w none reached = ap (λ start. run_among start reached.acts) (sym none) ∙ reached.is
 
-small_count : {ours : Names} (w : World) → HasRoom w → IsReachedAmong ours w → (count : ℕ) (v : World) → Turns w (names w) count v → count < 2 ^ 32
-small_count {ours} w room reached count v turns =
-    let calm = calm_among ours reached.acts reached.apart reached.lawful (subst HasRoom (sym reached.is) room) in
+may_settle : {scope : Scope} (w : World) → scope.start ≡ empty → HasRoom w → IsReachedAmong scope w → MaySettle w
+may_settle {scope} w none room reached =
+    let is = acts_lead w none reached in
+    let (count, v, turns, settled) = settles_among scope.ours reached.acts nobody reached.apart reached.lawful (subst HasRoom (sym is) room) (nobody_leaves scope.ours) in
+    subst MaySettle is (count, v, record { turns = (room_without_others.turns (run_among empty reached.acts) (names (run_among empty reached.acts)) count v).1 turns; settled = settled })
+
+small_count : {scope : Scope} (w : World) → scope.start ≡ empty → HasRoom w → IsReachedAmong scope w → (count : ℕ) (v : World) → Turns w (names w) count v → count < 2 ^ 32
+small_count {scope} w none room reached count v turns =
+    let is = acts_lead w none reached in
+    let calm = calm_among scope.ours reached.acts reached.apart reached.lawful (subst HasRoom (sym is) room) in
     let few = few_names (run_among empty reached.acts).history calm.quiet.counted in
-    omega (arith, most_turns (names w) w count v turns, few, ap (λ (v : World). length (names v)) reached.is)
+    omega (arith, most_turns (names w) w count v turns, few, ap (λ (v : World). length (names v)) is)
 
 -- ---- what runs
 
@@ -170,8 +176,8 @@ module _ {R J : Type 0} (g : Registries R) (h : Journals J) where
   }
 
   -- the world after what was done runs
-  pub done_is : {ours : Names} {old new : Running R J} (done : SendsAndDelivers g h old new) → IsSound g h new → (w : World) → IsAmong g h ours old w → IsAmong g h ours new (run w done.events)
-  done_is {ours} done sound w is = done.runs.is sound w is (own_events ours done.events done.only)
+  pub done_is : {scope : Scope} {old new : Running R J} (done : SendsAndDelivers g h old new) → IsSound g h new → (w : World) → IsAmong g h scope old w → IsAmong g h scope new (run w done.events)
+  done_is {scope} done sound w is = done.runs.is sound w is (own_events scope.ours done.events done.only)
 
   -- ---- faults
 
@@ -208,17 +214,17 @@ module _ {R J : Type 0} (g : Registries R) (h : Journals J) where
     fails = fails;
     again = λ sound faithful journal w is.
         let alone = is_of_ours g h new (run w done.events) (still sound faithful journal w (is_among g h old w is)) in
-        (alone, may_settle (run w done.events) (room_alone (run w done.events) alone.reached) (among_reached (run w done.events) alone.reached));
+        (alone, may_settle (run w done.events) refl (room_alone (run w done.events) alone.reached) (among_reached (run w done.events) alone.reached));
     among = λ sound faithful journal w is.
         let there = still sound faithful journal w is in
-        (there, λ room. may_settle (run w done.events) room there.reached);
+        (there, λ none room. may_settle (run w done.events) none room there.reached);
   }
     where
-      still : IsSound g h new → g.is_faithful new.provider → h.is_faithful (journal_in new.connector) → {ours : Names} (w : World) → IsAmong g h ours old w → IsAmong g h ours new (run w done.events)
-      still sound faithful journal {ours} w is =
+      still : IsSound g h new → g.is_faithful new.provider → h.is_faithful (journal_in new.connector) → {scope : Scope} (w : World) → IsAmong g h scope old w → IsAmong g h scope new (run w done.events)
+      still sound faithful journal {scope} w is =
           let there = done_is done (fails.was sound) w is in
           let failed = fails.is sound (is_known between new next is_next faithful journal) (run w done.events) there in
-          subst (λ v. IsAmong g h ours new v) (no_restart (run w done.events) next is_next) failed
+          subst (λ v. IsAmong g h scope new v) (no_restart (run w done.events) next is_next) failed
 
   pub stops_after : (old mid new : Running R J) → SendsAndDelivers g h old mid → (fault : WorldFault) → Stops g h mid new fault → Stops g h old new fault
   stops_after old mid new done fault s = stops old s.between new (both_done old mid s.between done s.done) s.next s.is_next fault s.fails
@@ -276,7 +282,7 @@ module _ {R J : Type 0} (g : Registries R) (h : Journals J) where
   -- the exchanges for the record so far
   pub record IsSoFar (old new : Running R J) (name : RecordName) (count : ℕ) : Type 0 where
     pub done : SendsAndDelivers g h old new
-    pub made : IsSound g h new → {ours : Names} (w : World) → IsAmong g h ours old w → Exchanges w name count (run w done.events)
+    pub made : IsSound g h new → {scope : Scope} (w : World) → IsAmong g h scope old w → Exchanges w name count (run w done.events)
 
   pub none_so_far : (r : Running R J) (name : RecordName) → IsSoFar r r name 0
   none_so_far r name = record { done = none_done r; made = λ sound w is. refl }
@@ -324,7 +330,7 @@ module _ {R J : Type 0} (g : Registries R) (h : Journals J) where
   pub record AreSoFar (old new : Running R J) (all : List RecordName) (place exchanges : ℕ) : Type 0 where
     pub done : SendsAndDelivers g h old new
     pub most : exchanges ≤ 3 * place
-    pub lead : IsSound g h new → {ours : Names} (w : World) → IsAmong g h ours old w → (count : ℕ) (v : World) → count < 2 ^ 32 → Turns w all count v
+    pub lead : IsSound g h new → {scope : Scope} (w : World) → IsAmong g h scope old w → (count : ℕ) (v : World) → count < 2 ^ 32 → Turns w all count v
         → (left : ℕ) × Turns (run w done.events) (drop place all) left v × (exchanges + left ≡ count)
 
   pub none_settled : (r : Running R J) (all : List RecordName) → AreSoFar r r all 0 0
@@ -352,22 +358,28 @@ module _ {R J : Type 0} (g : Registries R) (h : Journals J) where
   open_names (Open connector) book all is has = has.1
   open_names (Shut journal) book all is has = absurd (cc)
 
-  settling : {ours : Names} (old new : Running R J) (all : List RecordName) (place exchanges : ℕ) → place ≡ length all → all ≡ names_in h old.connector → is_open old.connector ≡ true → (so : AreSoFar old new all place exchanges)
-      → IsSound g h new → (w : World) → HasRoom w → IsAmong g h ours old w → IsSettling w exchanges (run w so.done.events)
-  settling old new all place exchanges past named opened so sound w room is =
-      let (count, v, s) = may_settle w room is.reached in
+  -- if exchanges lead to convergence, these were made
+  reached_by : {scope : Scope} (old new : Running R J) (all : List RecordName) (place exchanges : ℕ) → place ≡ length all → all ≡ names_in h old.connector → is_open old.connector ≡ true → (so : AreSoFar old new all place exchanges)
+      → IsSound g h new → (w : World) → IsAmong g h scope old w → (count : ℕ) (v : World) → count < 2 ^ 32 → Turns w (names w) count v → (exchanges ≡ count) × (run w so.done.events ≡ v)
+  reached_by old new all place exchanges past named opened so sound w is count v small turns =
       let same : all ≡ names w = named ∙ open_names old.connector w.book (names w) opened is.mirrors.book in
-      let small = small_count w room is.reached count v s.turns in
-      let (left, rest, counted) = so.lead sound w is count v small (subst (λ (ns : List RecordName). Turns w ns count v) (sym same) s.turns) in
+      let (left, rest, counted) = so.lead sound w is count v small (subst (λ (ns : List RecordName). Turns w ns count v) (sym same) turns) in
       let end : (v ≡ run w so.done.events) × (left ≡ 0) = subst (λ (ns : List RecordName). Turns (run w so.done.events) ns left v) (drop_all place all (omega (arith, past))) rest in
-      let exact : count ≡ exchanges = omega (arith, counted, end.1) in
-      subst (λ (u : World). IsSettling w exchanges u) end.0 (subst (λ n. IsSettling w n v) exact s)
+      (omega (arith, counted, end.1), sym end.0)
+
+  settling : {scope : Scope} (old new : Running R J) (all : List RecordName) (place exchanges : ℕ) → place ≡ length all → all ≡ names_in h old.connector → is_open old.connector ≡ true → (so : AreSoFar old new all place exchanges)
+      → IsSound g h new → (w : World) → scope.start ≡ empty → HasRoom w → IsAmong g h scope old w → IsSettling w exchanges (run w so.done.events)
+  settling old new all place exchanges past named opened so sound w none room is =
+      let (count, v, s) = may_settle w none room is.reached in
+      let made = reached_by old new all place exchanges past named opened so sound w is count v (small_count w none room is.reached count v s.turns) s.turns in
+      subst (λ (u : World). IsSettling w exchanges u) (sym made.1) (subst (λ n. IsSettling w n v) (sym made.0) s)
 
   pub all_settled : (old new : Running R J) (all : List RecordName) (place exchanges : ℕ) → place ≡ length all → all ≡ names_in h old.connector → is_open old.connector ≡ true → AreSoFar old new all place exchanges
       → Settles g h old new (record { exchanges = exchanges })
   all_settled old new all place exchanges past named opened so = record {
     done = so.done;
     most = omega (arith, so.most, past, ap (λ (ns : List RecordName). length ns) named);
-    settling = λ sound w is. settling old new all place exchanges past named opened so sound w (room_alone w is.reached) (is_among g h old w is);
-    among = λ sound w is room. settling old new all place exchanges past named opened so sound w room is;
+    settling = λ sound w is. settling old new all place exchanges past named opened so sound w refl (room_alone w is.reached) (is_among g h old w is);
+    among = λ sound w is none room. settling old new all place exchanges past named opened so sound w none room is;
+    found = λ sound w is count v small s. reached_by old new all place exchanges past named opened so sound w is count v small s.turns;
   }

@@ -19,7 +19,7 @@ use Rattle.world_sim.specs.Following.{RunsTold}
 use Rattle.world_sim.specs.Transitions.{AreRuns}
 use Rattle.world_sim.specs.Messages.{message_size}
 use Rattle.world_sim.specs.Printing.{PrintsReport, printed_reports, report_lines, settled_lines, view_lines}
-use Rattle.world_sim.specs.Running.{IsAmong, IsSound, Starts, journal_in}
+use Rattle.world_sim.specs.Running.{IsAmong, IsSound, Starts, from_empty, journal_in}
 use Rattle.world_sim.specs.Several.{Adds, FailsToStart, StopsAt, StopsEach, AreAmong, AreSound, GoesOnSharing, HappensAt, IsNew, IsSeatAt, RunsSeveral, RunsSeveralFromEmpty, SettlesAt, SettlesEach, StartsSeveral, seat_of, seated, seats_of, turn_of, turn_report_of, turn_reports, turns_of}
 use Rattle.world_sim.specs.SeveralPrinting.{EndsPrintingSeveral, EndsSeveral, PrintsSeveral, ReachesEach, SettlesEachIf, ShowsAt, ShowsEachSide, turn_text, views_lines, views_of}
 use Rattle.connector_core.specs.State.{CountsOpen}
@@ -95,7 +95,7 @@ module _ {R J : Type 0} (g : Registries R) (h : Journals J) where
     count = ap (λ l. suc (length l)) none;
     is = λ sound faithful rows new ours none_shared. record {
       none_shared = none_shared;
-      each = λ place seat there. subst (λ s. IsAmong g h (ours place) (seated r.first s) (world_at nobody place)) (alone place seat there) (starts.is (here sound) faithful rows new.0 (ours place));
+      each = λ place seat there. subst (λ s. IsAmong g h (from_empty (ours place)) (seated r.first s) (world_at nobody place)) (alone place seat there) (starts.is (here sound) faithful rows new.0 (ours place));
     };
   }
     where
@@ -142,18 +142,18 @@ module _ {R J : Type 0} (g : Registries R) (h : Journals J) where
       among sound faithful rows empty ours none_shared = starts.is (sound_was sound) faithful rows (all_front (IsNew h) journals (journal ∷ []) empty) ours none_shared
 
       last : AreSound g h new → g.is_faithful registry → AllByRecursion (IsNew h) (journals ++ journal ∷ []) → {ours : ℕ → Names} → AreAmong g h ours old nobody
-          → (place : ℕ) → IsAmong g h (ours place) (seated old.first adds.seat) (world_at nobody place)
+          → (place : ℕ) → IsAmong g h (from_empty (ours place)) (seated old.first adds.seat) (world_at nobody place)
       last sound faithful empty {ours} before place =
           let opened = starts.stays_open faithful in
           adds.starts.is (sound_last sound) opened ((before.each 0 (seat_of old.first) refl).mirrors.rows opened) (all_back (IsNew h) journals (journal ∷ []) empty).0 (ours place)
 
       each : AreSound g h new → g.is_faithful registry → g.rows registry ≡ [] → AllByRecursion (IsNew h) (journals ++ journal ∷ []) → (ours : ℕ → Names) → NoneShared ours
-          → (place : ℕ) (seat : Seat J) → IsSeatAt new place seat → IsAmong g h (ours place) (seated new.first seat) (world_at nobody place)
+          → (place : ℕ) (seat : Seat J) → IsSeatAt new place seat → IsAmong g h (from_empty (ours place)) (seated new.first seat) (world_at nobody place)
       each sound faithful rows empty ours none_shared place seat there =
           let were = among sound faithful rows empty ours none_shared in
-          subst (λ f. IsAmong g h (ours place) (seated f seat) (world_at nobody place)) (sym adds.first) (elim (pushed_at (seats_of old) adds.seat seat place (before place seat there)) [
+          subst (λ f. IsAmong g h (from_empty (ours place)) (seated f seat) (world_at nobody place)) (sym adds.first) (elim (pushed_at (seats_of old) adds.seat seat place (before place seat there)) [
             | inl at ↦ were.each place seat at
-            | inr same ↦ subst (λ s. IsAmong g h (ours place) (seated old.first s) (world_at nobody place)) same (last sound faithful empty were place)
+            | inr same ↦ subst (λ s. IsAmong g h (from_empty (ours place)) (seated old.first s) (world_at nobody place)) same (last sound faithful empty were place)
           ])
 
   -- ---- turns

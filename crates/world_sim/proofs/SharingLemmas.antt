@@ -26,7 +26,7 @@ use Rattle.world_model.proofs.Invariant.{message_there, among_inv, none_inv}
 use Rattle.world_model.proofs.Ranking.{record_ours}
 use Rattle.world_model.proofs.Several.{at_same, at_other}
 use Rattle.world_sim.specs.Messages.{message_text}
-use Rattle.world_sim.specs.Running.{Happens, IsAmong, IsReachedAmong, IsSound, journal_in}
+use Rattle.world_sim.specs.Running.{Happens, IsAmong, IsReachedAmong, IsSound, from_empty, journal_in}
 use Rattle.world_sim.specs.Settling.{Settles}
 use Rattle.world_sim.specs.Several.{AreAmong, AreOpen, AreSound, HappensAt, IsDoneAt, IsSeatAt, SettlesAt, others_with, seat_of, seated, seats_of}
 use Rattle.world_sim.specs.declared.reports.Report.{Report as ReportOf}
@@ -107,21 +107,21 @@ module _ (theirs ours : Names) (apart : (name : _) → theirs name ≡ true → 
   asked_alone history es (Search kind wanted start count) mine asked = tt
   asked_alone history es (Replace id content if_match if_none_match) mine asked = apart (content_name content) (image_ours theirs history es (content_name content) content mine asked.image)
 
-  module _ (w : World) (inv : InvariantOf theirs w) (side : Side) (here : IsReachedAmong ours (world_of w.entries side)) where
-    reached_sending : (o : Option Ask) → IsReachedAmong ours (world_of (sends w o).entries side)
+  module _ (w : World) (inv : InvariantOf theirs w) (side : Side) (here : IsReachedAmong (from_empty ours) (world_of w.entries side)) where
+    reached_sending : (o : Option Ask) → IsReachedAmong (from_empty ours) (world_of (sends w o).entries side)
     reached_sending None = here
     reached_sending (Some Nothing) = here
     reached_sending (Some (Waits member)) = here
     reached_sending (Some (Send request)) = here
 
-    reached_delivering : (number : ℕ) (o : Option Message) → message_at w.messages number ≡ o → IsReachedAmong ours (world_of (delivers w o).entries side)
+    reached_delivering : (number : ℕ) (o : Option Message) → message_at w.messages number ≡ o → IsReachedAmong (from_empty ours) (world_of (delivers w o).entries side)
     reached_delivering number None is = here
     reached_delivering number (Some (Asked request)) is =
         let (i, at) = message_there w.messages number (Asked request) is in
         reaches (world_of w.entries side) (Theirs request) (asked_alone w.history w.entries request inv.mine (inv.told i (Asked request) at)) tt here
     reached_delivering number (Some (Answered request answer)) is = here
 
-    pub reached_other : (event : Event) → IsReachedAmong ours (world_of (happens w event).entries side)
+    pub reached_other : (event : Event) → IsReachedAmong (from_empty ours) (world_of (happens w event).entries side)
     reached_other (Changes row) = here
     reached_other (Sends name) = reached_sending (asking w.book name)
     reached_other (Delivers number) = reached_delivering number (message_at w.messages number) refl
@@ -132,12 +132,12 @@ module _ (theirs ours : Names) (apart : (name : _) → theirs name ≡ true → 
 
 -- the same of events one after the other
 pub reached_run : (theirs ours : Names) (apart : (name : _) → theirs name ≡ true → ours name ≡ false) (side : Side) (w : World) (events : List Event) → AllByRecursion (OfOurs theirs) events → InvariantOf theirs w
-    → IsReachedAmong ours (world_of w.entries side) → IsReachedAmong ours (world_of (run w events).entries side)
+    → IsReachedAmong (from_empty ours) (world_of w.entries side) → IsReachedAmong (from_empty ours) (world_of (run w events).entries side)
 reached_run theirs ours apart side w [] own inv here = here
 reached_run theirs ours apart side w (event ∷ events) own inv here =
     reached_run theirs ours apart side (happens w event) events own.1 (among_inv w (Ours event ∷ []) (own.0, tt) inv) (reached_other theirs ours apart w inv side here event)
 
-pub reached_inv : (ours : Names) (w : World) → IsReachedAmong ours w → InvariantOf ours w
+pub reached_inv : (ours : Names) (w : World) → IsReachedAmong (from_empty ours) w → InvariantOf ours w
 reached_inv ours w r = subst (InvariantOf ours) r.is (among_inv empty r.acts r.apart (none_inv ours))
 
 -- ---- what is done on one side, to all
@@ -166,18 +166,18 @@ module _ {R J : Type 0} (g : Registries R) (h : Journals J) (old new : SharedWor
 
   module _ {ours : ℕ → Names} (s : Shared) (among : AreAmong g h ours old s) where
     -- the world of the side before
-    pub at_first : IsAmong g h (ours place) (seated old.first done.before) (world_at s place)
+    pub at_first : IsAmong g h (from_empty (ours place)) (seated old.first done.before) (world_at s place)
     at_first = among.each place done.before done.was_there
 
     pub names_apart : (other : ℕ) → (place == other) ≡ false → (name : _) → ours place name ≡ true → ours other name ≡ false
     names_apart other apart name its = false_from_ne_true _ (λ also. eqb-false place other apart (among.none_shared place other name its also))
 
-    module _ (base : new.first.service ≡ old.first.service) (v : World) (mine : IsAmong g h (ours place) (seated new.first done.after) v)
-        (reached : (other : ℕ) → (place == other) ≡ false → IsReachedAmong (ours other) (world_at s other) → IsReachedAmong (ours other) (world_of v.entries (s.sides other))) where
+    module _ (base : new.first.service ≡ old.first.service) (v : World) (mine : IsAmong g h (from_empty (ours place)) (seated new.first done.after) v)
+        (reached : (other : ℕ) → (place == other) ≡ false → IsReachedAmong (from_empty (ours other)) (world_at s other) → IsReachedAmong (from_empty (ours other)) (world_of v.entries (s.sides other))) where
       other_side : (other : ℕ) (seat : Seat J) → (place == other) ≡ false → IsSeatAt new other seat
-          → IsAmong g h (ours other) (seated new.first seat) (world_of v.entries (s.sides other))
+          → IsAmong g h (from_empty (ours other)) (seated new.first seat) (world_of v.entries (s.sides other))
       other_side other seat apart at =
-          let theirs : IsAmong g h (ours other) (seated old.first seat) (world_at s other) = among.each other seat (sym (done.others other (eqb-false place other apart)) ∙ at) in
+          let theirs : IsAmong g h (from_empty (ours other)) (seated old.first seat) (world_at s other) = among.each other seat (sym (done.others other (eqb-false place other apart)) ∙ at) in
           record {
             mirrors = record {
               rows = mine.mirrors.rows;
@@ -193,16 +193,16 @@ module _ {R J : Type 0} (g : Registries R) (h : Journals J) (old new : SharedWor
             reached = reached other apart theirs.reached;
           }
 
-      each_after : (other : ℕ) (seat : Seat J) → IsSeatAt new other seat → IsAmong g h (ours other) (seated new.first seat) (world_at (with_world s place v) other)
+      each_after : (other : ℕ) (seat : Seat J) → IsSeatAt new other seat → IsAmong g h (from_empty (ours other)) (seated new.first seat) (world_at (with_world s place v) other)
       each_after other seat at = elim (cases_Bool (place == other)) [
         | inl same ↦
             let here : IsSeatAt new place seat = subst (λ q. IsSeatAt new q seat) (sym (eqb-true place other same)) at in
             let e : done.after ≡ seat = one_seat new place done.after seat done.is_there here in
-            subst (λ q. IsAmong g h (ours q) (seated new.first seat) (world_at (with_world s place v) q)) (eqb-true place other same)
-            (subst (λ t. IsAmong g h (ours place) (seated new.first t) (world_at (with_world s place v) place)) e
-            (subst (λ u. IsAmong g h (ours place) (seated new.first done.after) u) (sym (at_same s place v)) mine))
+            subst (λ q. IsAmong g h (from_empty (ours q)) (seated new.first seat) (world_at (with_world s place v) q)) (eqb-true place other same)
+            (subst (λ t. IsAmong g h (from_empty (ours place)) (seated new.first t) (world_at (with_world s place v) place)) e
+            (subst (λ u. IsAmong g h (from_empty (ours place)) (seated new.first done.after) u) (sym (at_same s place v)) mine))
         | inr apart ↦
-            subst (λ u. IsAmong g h (ours other) (seated new.first seat) u) (sym (at_other s place other v apart)) (other_side other seat apart at)
+            subst (λ u. IsAmong g h (from_empty (ours other)) (seated new.first seat) u) (sym (at_other s place other v apart)) (other_side other seat apart at)
       ]
 
       pub moved : AreAmong g h ours new (with_world s place v)
@@ -215,10 +215,10 @@ module _ {R J : Type 0} (g : Registries R) (h : Journals J) (old new : SharedWor
       | inr apart ↦ at_other s place other (world_at s place) apart
     ]
 
-    pub stayed : new.first.service ≡ old.first.service → IsAmong g h (ours place) (seated new.first done.after) (world_at s place) → AreAmong g h ours new s
+    pub stayed : new.first.service ≡ old.first.service → IsAmong g h (from_empty (ours place)) (seated new.first done.after) (world_at s place) → AreAmong g h ours new s
     stayed base mine =
         let all = moved base (world_at s place) mine (λ other apart here. here) in
-        record { none_shared = all.none_shared; each = λ other seat at. subst (λ u. IsAmong g h (ours other) (seated new.first seat) u) (stays_at other) (all.each other seat at) }
+        record { none_shared = all.none_shared; each = λ other seat at. subst (λ u. IsAmong g h (from_empty (ours other)) (seated new.first seat) u) (stays_at other) (all.each other seat at) }
 
 -- ---- one turn
 
@@ -258,7 +258,7 @@ module _ {R J : Type 0} (g : Registries R) (h : Journals J) where
         let first = at_first g h old new place _ done s among in
         let here = now_sound g h old new place _ done sound in (
           run w events,
-          done.does.among here w first,
+          done.does.among here w first refl,
           moved g h old new place _ done s among done.does.done.runs.base (run w events) (done_is g h done.does.done here w first)
               (λ other apart there. reached_run (ours place) (ours other) (names_apart g h old new place _ done s among other apart) (s.sides other) w events (own_events (ours place) events done.does.done.only)
               (reached_inv (ours place) w first.reached) there),

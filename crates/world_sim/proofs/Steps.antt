@@ -41,13 +41,12 @@ use Rattle.connector_core.specs.declared.asking.Ask.{Ask}
 use Rattle.connector_core.specs.declared.asking.Ask.TheVariants as asks
 use Rattle.connector_core.specs.declared.changing.ChangeFault.{ChangeFault}
 use Rattle.world_model.specs.World.{World, Message, names as world_names, Asked, Answered, Changes, Sends, Delivers, Cuts, Doubts, judged, sends, delivers, message_at, with_message}
-use Rattle.world_model.specs.Invariant.{Names}
 use Rattle.world_model.specs.Reports as model
 use Rattle.world_model.specs.Safe.{rows as world_rows}
 use Rattle.world_sim.specs.Events.{report_of}
 use Rattle.world_sim.specs.Fitting.{IsFormed}
 use Rattle.world_sim.specs.Messages.{IsMessage, messages_of, text_at, texts_of, message_text, message_size, says}
-use Rattle.world_sim.specs.Running.{IsAmong, Mirrors, Makes, Happens, Arrives, Fails, FailsToArrive, HasBook, HoldsOneOf, IsOpenTo, Posts, journal_in}
+use Rattle.world_sim.specs.Running.{Arrives, Fails, FailsToArrive, Happens, HasBook, HoldsOneOf, IsAmong, IsOpenTo, Makes, Mirrors, Posts, Scope, journal_in}
 use Rattle.world_sim.specs.Reading.{IsReadAs, IsOrMemory}
 use Rattle.world_sim.specs.declared.messages.Sent.{Sent}
 use Rattle.world_sim.specs.declared.reading.ReadingFault.TheVariants.{Unread}
@@ -111,14 +110,14 @@ row_some (Some known) e = (known, refl)
 
 module _ {R J : Type 0} (g : Registries R) (h : Journals J) (old : Running R J) where
   -- the book and the names of an open connector are those of the world
-  pub here_book : (before : State J) → old.connector ≡ Open before → {ours : Names} (w : World) → IsAmong g h ours old w → book_of before.book ≡ w.book
+  pub here_book : (before : State J) → old.connector ≡ Open before → {scope : Scope} (w : World) → IsAmong g h scope old w → book_of before.book ≡ w.book
   here_book before e w is = (subst (λ s. HasBook s w.book (world_names w)) e is.mirrors.book).0
 
-  pub here_names : (before : State J) → old.connector ≡ Open before → {ours : Names} (w : World) → IsAmong g h ours old w → keys before.book ≡ world_names w
+  pub here_names : (before : State J) → old.connector ≡ Open before → {scope : Scope} (w : World) → IsAmong g h scope old w → keys before.book ≡ world_names w
   here_names before e w is = (subst (λ s. HasBook s w.book (world_names w)) e is.mirrors.book).1
 
   -- a stop leaves its book
-  pub here_leaves : (before : State J) → old.connector ≡ Open before → {ours : Names} (w : World) → IsAmong g h ours old w → LeavesBook h before
+  pub here_leaves : (before : State J) → old.connector ≡ Open before → {scope : Scope} (w : World) → IsAmong g h scope old w → LeavesBook h before
   here_leaves before e w is found holds = are_moved found w.book (book_of before.book) (world_names w) (keys before.book) (sym (here_book before e w is)) (sym (here_names before e w is))
       (is.mirrors.kept found (subst (λ s. h.may_hold (journal_in s) found) (sym e) holds))
 
@@ -129,15 +128,15 @@ module _ {R J : Type 0} (g : Registries R) (h : Journals J) (old : Running R J) 
   here_faithful before e faithful = subst (λ s. h.is_faithful (journal_in s)) e faithful
 
   -- the connector says the same of a row by the book of the world
-  judged_same : (before : State J) → old.connector ≡ Open before → (row : Row) {ours : Names} (w : World) → IsAmong g h ours old w → judging (book_of before.book) (keys before.book) row ≡ judged w row
+  judged_same : (before : State J) → old.connector ≡ Open before → (row : Row) {scope : Scope} (w : World) → IsAmong g h scope old w → judging (book_of before.book) (keys before.book) row ≡ judged w row
   judged_same before e row w is = ap (λ b. judging b (keys before.book) row) (here_book before e w is) ∙ ap (λ names. judging w.book names row) (here_names before e w is)
 
   -- the book and the names after a row, which are those of the world after it
-  pub changed_book : (before : State J) (row : Row) → old.connector ≡ Open before → {ours : Names} (w : World) → IsAmong g h ours old w
+  pub changed_book : (before : State J) (row : Row) → old.connector ≡ Open before → {scope : Scope} (w : World) → IsAmong g h scope old w
       → book_after (book_of before.book) row (judging (book_of before.book) (keys before.book) row) ≡ book_after w.book row (judged w row)
   changed_book before row e w is = ap (λ b. book_after b row (judging (book_of before.book) (keys before.book) row)) (here_book before e w is) ∙ ap (book_after w.book row) (judged_same before e row w is)
 
-  pub names_after_row : (before : State J) (row : Row) → old.connector ≡ Open before → {ours : Names} (w : World) → IsAmong g h ours old w
+  pub names_after_row : (before : State J) (row : Row) → old.connector ≡ Open before → {scope : Scope} (w : World) → IsAmong g h scope old w
       → keys (accepted_map before.book row (judging (book_of before.book) (keys before.book) row)) ≡ names_of (history_after w.history row (judged w row))
   names_after_row before row e w is = changed_names before.book w.history row (judging (book_of before.book) (keys before.book) row) (here_names before e w is)
       ∙ ap (λ v. names_of (history_after w.history row v)) (judged_same before e row w is)
@@ -225,7 +224,7 @@ module _ {R J : Type 0} (g : Registries R) (h : Journals J) (old : Running R J) 
     report = λ sound w is. said ∙ sym (ap model.doubt_report (ap (λ b. b name) (sym (here_book before e w is)) ∙ none));
   }
 
-  asked_same : (before : State J) → old.connector ≡ Open before → (name : RecordName) (ask : Option Ask) → asking (book_of before.book) name ≡ ask → {ours : Names} (w : World) → IsAmong g h ours old w → asking w.book name ≡ ask
+  asked_same : (before : State J) → old.connector ≡ Open before → (name : RecordName) (ask : Option Ask) → asking (book_of before.book) name ≡ ask → {scope : Scope} (w : World) → IsAmong g h scope old w → asking w.book name ≡ ask
   asked_same before at name ask e w is = ap (λ b. asking b name) (sym (here_book before at w is)) ∙ e
 
   -- nothing is sent
@@ -240,19 +239,19 @@ module _ {R J : Type 0} (g : Registries R) (h : Journals J) (old : Running R J) 
     report = λ sound w is. said (model.next_number w) ∙ sym (ap (model.ask_report (model.next_number w)) (asked_same before at name ask e w is));
   }
 
-  more_messages : {ours : Names} (w : World) (sent : Sent) (message : Message) → IsMessage old.service sent message → IsAmong g h ours old w → messages_of (old.sent.items ++ sent ∷ []) ≡ w.messages ++ message ∷ []
+  more_messages : {scope : Scope} (w : World) (sent : Sent) (message : Message) → IsMessage old.service sent message → IsAmong g h scope old w → messages_of (old.sent.items ++ sent ∷ []) ≡ w.messages ++ message ∷ []
   more_messages w sent message in_bytes is = map_push (λ (s : Sent). says s.said) old.sent.items sent ∙ ap (λ ms. ms ++ says sent.said ∷ []) is.mirrors.messages ∙ ap (λ m. w.messages ++ m ∷ []) in_bytes.is
 
-  more_texts : {ours : Names} (w : World) (sent : Sent) (message : Message) → IsMessage old.service sent message → IsAmong g h ours old w → texts_of (old.sent.items ++ sent ∷ []) ≡ map (message_text old.service) (w.messages ++ message ∷ [])
+  more_texts : {scope : Scope} (w : World) (sent : Sent) (message : Message) → IsMessage old.service sent message → IsAmong g h scope old w → texts_of (old.sent.items ++ sent ∷ []) ≡ map (message_text old.service) (w.messages ++ message ∷ [])
   more_texts w sent message in_bytes is = map_push (λ (s : Sent). s.bytes.items) old.sent.items sent ∙ ap (λ ts. ts ++ sent.bytes.items ∷ []) is.mirrors.texts ∙ ap (λ t. map (message_text old.service) w.messages ++ t ∷ []) in_bytes.text
       ∙ sym (map_push (message_text old.service) w.messages message)
 
-  pub as_many : {ours : Names} (w : World) → IsAmong g h ours old w → length old.sent.items ≡ length w.messages
+  pub as_many : {scope : Scope} (w : World) → IsAmong g h scope old w → length old.sent.items ≡ length w.messages
   as_many w is = sym (length-map old.sent.items (λ (s : Sent). says s.said)) ∙ ap length is.mirrors.messages
 
   -- the request is sent
   posts : (new : Running R J) (request : Request) (told : Report) → Posts old new request told
-      → Makes g h old new (λ ours w. Mirrors g h new (with_message w (Asked request))) (λ w. model.sending_report (model.next_number w) request) report_of told
+      → Makes g h old new (λ scope w. Mirrors g h new (with_message w (Asked request))) (λ w. model.sending_report (model.next_number w) request) report_of told
   posts new request told p = record {
     was = λ sound. record { registry = subst g.is_honest p.provider sound.registry; journal = subst (λ s. h.is_honest (journal_in s)) p.connector sound.journal };
     base = p.base;
@@ -290,7 +289,7 @@ module _ {R J : Type 0} (g : Registries R) (h : Journals J) (old : Running R J) 
 
   -- ---- messages that arrive
 
-  pub message_same : (number : ℕ) (message : Option Message) → message_at (messages_of old.sent.items) number ≡ message → {ours : Names} (w : World) → IsAmong g h ours old w → message_at w.messages number ≡ message
+  pub message_same : (number : ℕ) (message : Option Message) → message_at (messages_of old.sent.items) number ≡ message → {scope : Scope} (w : World) → IsAmong g h scope old w → message_at w.messages number ≡ message
   message_same number message e w is = ap (λ ms. message_at ms number) (sym is.mirrors.messages) ∙ e
 
   pub delivers_nothing : (number : ℕ) (told : Report) → message_at (messages_of old.sent.items) number ≡ None → report_of told ≡ model.No_message → Happens g h old old (Delivers number) told
@@ -305,7 +304,7 @@ module _ {R J : Type 0} (g : Registries R) (h : Journals J) (old : Running R J) 
 
   -- the request that is read from the bytes with a number is the one that was sent
   same_asked : (number : ℕ) (asked heard : Request) (bytes : List ℕ) → message_at (messages_of old.sent.items) number ≡ Some (Asked asked) → text_at (texts_of old.sent.items) number ≡ Some bytes
-      → ((request : Request) → SpellsRequest bytes request → IsOrMemory request (Ok heard)) → {ours : Names} (w : World) → IsAmong g h ours old w → heard ≡ asked
+      → ((request : Request) → SpellsRequest bytes request → IsOrMemory request (Ok heard)) → {scope : Scope} (w : World) → IsAmong g h scope old w → heard ≡ asked
   same_asked number asked heard bytes said text only w is = one_read asked heard (only asked (sent_is_read g h old number (Asked asked) bytes said text w is))
 
   pub delivers_request : (new : Running R J) (number : ℕ) (asked heard : Request) (bytes : List ℕ) (told : Report)
@@ -321,7 +320,7 @@ module _ {R J : Type 0} (g : Registries R) (h : Journals J) (old : Running R J) 
     report = λ sound w is. m.report sound w is ∙ sym (ap (model.delivery_report w) (heard_at w is));
   }
     where
-      heard_at : {ours : Names} (w : World) → IsAmong g h ours old w → message_at w.messages number ≡ Some (Asked heard)
+      heard_at : {scope : Scope} (w : World) → IsAmong g h scope old w → message_at w.messages number ≡ Some (Asked heard)
       heard_at w is = message_same number (Some (Asked asked)) said w is ∙ ap (λ r. Some (Asked r)) (sym (same_asked number asked heard bytes said text only w is))
 
   pub request_told : (new : Running R J) (number : ℕ) (asked heard : Request) (bytes : List ℕ) (result : Result Report WorldFault)
@@ -344,15 +343,15 @@ module _ {R J : Type 0} (g : Registries R) (h : Journals J) (old : Running R J) 
     report = λ sound w is. absurd (never w is);
   }
     where
-      never : {ours : Names} (w : World) → IsAmong g h ours old w → ⊥
+      never : {scope : Scope} (w : World) → IsAmong g h scope old w → ⊥
       never w is = no_unread asked (only asked (sent_is_read g h old number (Asked asked) bytes said text w is))
 
   -- the bytes of an answer are read as it
   pub answer_read : (number : ℕ) (request : Request) (answer : Answer) (bytes : List ℕ) → message_at (messages_of old.sent.items) number ≡ Some (Answered request answer) → text_at (texts_of old.sent.items) number ≡ Some bytes
-      → {ours : Names} (w : World) → IsAmong g h ours old w → AnswersSo bytes request answer
+      → {scope : Scope} (w : World) → IsAmong g h scope old w → AnswersSo bytes request answer
   answer_read number request answer bytes sent text w is = sent_is_read g h old number (Answered request answer) bytes sent text w is
 
-  pub learnt_book : (before : State J) (request : Request) (answer : Answer) → old.connector ≡ Open before → {ours : Names} (w : World) → IsAmong g h ours old w
+  pub learnt_book : (before : State J) (request : Request) (answer : Answer) → old.connector ≡ Open before → {scope : Scope} (w : World) → IsAmong g h scope old w
       → after_learning (book_of before.book) (learn (book_of before.book) request answer) ≡ after_learning w.book (learn w.book request answer)
   learnt_book before request answer e w is = ap (λ b. after_learning b (learn b request answer)) (here_book before e w is)
 
@@ -421,7 +420,7 @@ module _ {R J : Type 0} (g : Registries R) (h : Journals J) (old : Running R J) 
     excused = fails.excused number;
   }
     where
-      heard_at : {ours : Names} (w : World) → IsAmong g h ours old w → message_at w.messages number ≡ Some (Asked heard)
+      heard_at : {scope : Scope} (w : World) → IsAmong g h scope old w → message_at w.messages number ≡ Some (Asked heard)
       heard_at w is = message_same number (Some (Asked asked)) said w is ∙ ap (λ r. Some (Asked r)) (sym (same_asked number asked heard bytes said text only w is))
 
   -- without a message, or with all bytes of one, nothing is cut
@@ -450,7 +449,7 @@ module _ {R J : Type 0} (g : Registries R) (h : Journals J) (old : Running R J) 
       not_less : nat_lt count (length bytes) ≡ false
       not_less = false_from_ne_true _ (λ (less : nat_lt count (length bytes) ≡ true). absurd (omega (arith, (Decides-ltb count (length bytes)).0 less, whole)))
 
-      is_whole : {ours : Names} (w : World) → IsAmong g h ours old w → nat_lt count (message_size old.service message) ≡ false
+      is_whole : {scope : Scope} (w : World) → IsAmong g h scope old w → nat_lt count (message_size old.service message) ≡ false
       is_whole w is = ap (λ (t : List ℕ). nat_lt count (length t)) (sym (text_is g h old number message bytes said text w is)) ∙ not_less
 
   -- the first bytes of a message aren't read as one
@@ -471,7 +470,7 @@ module _ {R J : Type 0} (g : Registries R) (h : Journals J) (old : Running R J) 
         ∙ ap model.cut_at (is_short w is));
   }
     where
-      is_short : {ours : Names} (w : World) → IsAmong g h ours old w → nat_lt count (message_size old.service message) ≡ true
+      is_short : {scope : Scope} (w : World) → IsAmong g h scope old w → nat_lt count (message_size old.service message) ≡ true
       is_short w is = ap (λ (t : List ℕ). nat_lt count (length t)) (sym (text_is g h old number message bytes said text w is)) ∙ (Decides-ltb count (length bytes)).1 less
 
   -- a request is answered: the registry is read, and then written
@@ -510,15 +509,15 @@ module _ {R J : Type 0} (g : Registries R) (h : Journals J) (old : Running R J) 
       is_open_now : g.is_honest new.provider → g.is_faithful new.provider
       is_open_now honest = stays honest (opened (was_mid honest))
 
-      held_same : g.is_honest new.provider → {ours : Names} (w : World) → IsAmong g h ours old w → g.rows old.provider ≡ rows_of w.entries
+      held_same : g.is_honest new.provider → {scope : Scope} (w : World) → IsAmong g h scope old w → g.rows old.provider ≡ rows_of w.entries
       held_same honest w is = is.mirrors.rows (was_open (opened (was_mid honest)))
 
-      pending_same : g.is_honest new.provider → {ours : Names} (w : World) → IsAmong g h ours old w → pending ≡ outcome (rows_of w.entries) request
+      pending_same : g.is_honest new.provider → {scope : Scope} (w : World) → IsAmong g h scope old w → pending ≡ outcome (rows_of w.entries) request
       pending_same honest w is = out (opened (was_mid honest)) ∙ ap (λ rows. outcome rows request) (held_same honest w is)
 
-      answer_same : g.is_honest new.provider → {ours : Names} (w : World) → IsAmong g h ours old w → pending.answer ≡ (step w.entries request).answer
+      answer_same : g.is_honest new.provider → {scope : Scope} (w : World) → IsAmong g h scope old w → pending.answer ≡ (step w.entries request).answer
       answer_same honest w is = ap (λ p. p.answer) (pending_same honest w is) ∙ (rows_follow_stories w.entries request is.mirrors.table).answer
 
-      rows_same : g.is_honest new.provider → {ours : Names} (w : World) → IsAmong g h ours old w → changed_rows (g.rows mid) pending.change ≡ rows_of (step w.entries request).entries
+      rows_same : g.is_honest new.provider → {scope : Scope} (w : World) → IsAmong g h scope old w → changed_rows (g.rows mid) pending.change ≡ rows_of (step w.entries request).entries
       rows_same honest w is = ap (λ rows. changed_rows rows pending.change) (same (opened (was_mid honest)) ∙ held_same honest w is)
           ∙ ap (λ p. changed_rows (rows_of w.entries) p.change) (pending_same honest w is) ∙ (rows_follow_stories w.entries request is.mirrors.table).rows

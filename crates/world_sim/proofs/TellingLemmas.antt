@@ -170,7 +170,7 @@ module _ {R J : Type 0} (g : Registries R) (h : Journals J) where
     first = first;
     starts = starts;
     run = far;
-    from_empty = ran_among g h first ran registry journal base all far.reports starts.base_is starts.starts far.runs;
+    from_empty = ran_among g h first ran registry journal base far.reports starts.base_is starts.starts all far.runs;
   }
 
 -- the reports that were kept are those of the run, if none was kept before

@@ -15,7 +15,7 @@ use Rattle.journal_core.specs.declared.journals.Journal.{Ghosts as Journals}
 use Rattle.connector_core.specs.Book.{empty_book}
 use Rattle.connector_core.specs.Maps.{book_of}
 use Rattle.connector_core.specs.State.{State, IsOpened, LeavesBook, opened}
-use Rattle.world_model.specs.Invariant.{Names, all_names}
+use Rattle.world_model.specs.Invariant.{all_names}
 use Rattle.world_model.specs.Others.{OfOurs}
 use Rattle.world_model.specs.World.{World, Message, Event, happens, empty, run}
 use Rattle.world_model.proofs.Invariant.{all_of_ours}
@@ -25,7 +25,7 @@ use Rattle.world_model.proofs.Onwards.{always_onward}
 use Rattle.world_model.proofs.Headlines.{headline_holds}
 use Rattle.world_sim.specs.Events.{report_of}
 use Rattle.world_sim.specs.Messages.{messages_of, texts_of, message_size}
-use Rattle.world_sim.specs.Running.{IsSound, IsAmong, Happens, HasBook, Starts, Runs, RunsFromEmpty, journal_in}
+use Rattle.world_sim.specs.Running.{Happens, HasBook, IsAmong, IsSound, Runs, RunsFromEmpty, Scope, Starts, journal_in}
 use Rattle.world_sim.specs.declared.reports.Report.{Report}
 use Rattle.world_sim.specs.declared.sides.Side.TheVariants.{Open}
 use Rattle.world_sim.specs.declared.worlds.World.{World as Running}
@@ -58,11 +58,11 @@ all_own [] = tt
 all_own (event ∷ events) = (all_of_ours event, all_own events)
 
 module _ {R J : Type 0} (g : Registries R) (h : Journals J) where
-  pub own_front : {ours : Names} (r : Running R J) (w : World) → IsAmong g h ours r w → (events more : List Event) → AllByRecursion (OfOurs ours) (events ++ more) → AllByRecursion (OfOurs ours) events
-  own_front {ours} r w is events more own = all_front (OfOurs ours) events more own
+  pub own_front : {scope : Scope} (r : Running R J) (w : World) → IsAmong g h scope r w → (events more : List Event) → AllByRecursion (OfOurs scope.ours) (events ++ more) → AllByRecursion (OfOurs scope.ours) events
+  own_front {scope} r w is events more own = all_front (OfOurs scope.ours) events more own
 
-  pub own_back : {ours : Names} (r : Running R J) (w : World) → IsAmong g h ours r w → (events more : List Event) → AllByRecursion (OfOurs ours) (events ++ more) → AllByRecursion (OfOurs ours) more
-  own_back {ours} r w is events more own = all_back (OfOurs ours) events more own
+  pub own_back : {scope : Scope} (r : Running R J) (w : World) → IsAmong g h scope r w → (events more : List Event) → AllByRecursion (OfOurs scope.ours) (events ++ more) → AllByRecursion (OfOurs scope.ours) more
+  own_back {scope} r w is events more own = all_back (OfOurs scope.ours) events more own
 
   pub runs_none : (r : Running R J) → Runs g h r r [] []
   runs_none r = record { was = λ sound. sound; base = refl; stays_open = λ sound faithful. faithful; journal_open = λ sound faithful. faithful; is = λ sound w is own. is; told_so = λ sound w is own. refl }

@@ -13,11 +13,10 @@ use Rattle.provider_core.specs.Rows.{row_named}
 use Rattle.provider_core.specs.Stories.{step}
 use Rattle.provider_core.specs.declared.registry.Registry.{Ghosts as Registries}
 use Rattle.journal_core.specs.declared.journals.Journal.{Ghosts as Journals}
-use Rattle.world_model.specs.Invariant.{Names}
 use Rattle.world_model.specs.Others.{Theirs, acts, LeavesAlone}
 use Rattle.world_model.specs.World.{World}
 use Rattle.world_sim.specs.GoingOn.{unknown_rows}
-use Rattle.world_sim.specs.Running.{HoldsOneOf, IsAmong, IsSound, Mirrors}
+use Rattle.world_sim.specs.Running.{HoldsOneOf, IsAmong, IsSound, Mirrors, Scope}
 use Rattle.world_sim.specs.declared.reports.WorldFault.{WorldFault}
 use Rattle.world_sim.specs.declared.reports.WorldFault.TheVariants.{Memory, Store}
 use Rattle.world_sim.specs.declared.worlds.World.{World as Running}
@@ -30,10 +29,14 @@ pub record Answers {R J : Type 0} (g : Registries R) (h : Journals J) (old new :
   pub stays_open : IsSound g h new → g.is_faithful old.provider → g.is_faithful new.provider
   pub is : IsSound g h new → (w : World) → Mirrors g h old w → Mirrors g h new (acts w (Theirs request))
   pub was_open : IsSound g h new → g.is_faithful old.provider
-  pub among : IsSound g h new → {ours : Names} (w : World) → IsAmong g h ours old w → LeavesAlone ours request
-      → IsAmong g h ours new (acts w (Theirs request))
+  pub among : IsSound g h new → {scope : Scope} (w : World) → IsAmong g h scope old w → LeavesAlone scope.ours request
+      → IsAmong g h scope new (acts w (Theirs request))
   pub answer : IsSound g h new → (w : World) → Mirrors g h old w
       → status ≡ answer_status (step w.entries request).answer
+
+-- whatever others ask, about our records too: the running world has the parts of the world after it
+abbrev pub Leads : {R J : Type 0} → Registries R → Journals J → (old new : Running R J) → (World → World) → Type 0
+Leads g h old new after = IsSound g h new → (w : World) → Mirrors g h old w → Mirrors g h new (after w)
 
 -- out of memory isn't a fault of the registry's store; a fault of it was counted, or the provider was shut before
 abbrev pub IsExcusedTo : {R J : Type 0} → Registries R → (old new : Running R J) → WorldFault → Type 0

@@ -1,9 +1,8 @@
 -- An event goes on as before, whatever a fault left of a store that it doesn't read.
 use Rattle.provider_core.specs.declared.registry.Registry.{Ghosts as Registries}
 use Rattle.journal_core.specs.declared.journals.Journal.{Ghosts as Journals}
-use Rattle.world_model.specs.Invariant.{Names}
 use Rattle.world_model.specs.World.{World, Event}
-use Rattle.world_sim.specs.Running.{Fails, Happens, IsAmong, ReadsJournal, ReadsRegistry, if_restart}
+use Rattle.world_sim.specs.Running.{Fails, Happens, IsAmong, ReadsJournal, ReadsRegistry, Scope, if_restart}
 use Rattle.world_sim.specs.declared.reports.Report.{Report}
 use Rattle.world_sim.specs.declared.reports.WorldFault.{WorldFault}
 use Rattle.world_sim.specs.declared.worlds.World.{World as Running}
@@ -22,12 +21,12 @@ unknown_entries h =
     record h { is_faithful = λ journal. ⊥; is_honest = λ journal. Unit {0}; may_hold = λ journal found. ⊥ }
 
 -- the running world is this world, but for what its registry holds
-abbrev pub IsButForRows : {R J : Type 0} → Registries R → Journals J → Names → Running R J → World → Type 0
-IsButForRows g h ours r w = IsAmong (unknown_rows g) h ours r w
+abbrev pub IsButForRows : {R J : Type 0} → Registries R → Journals J → Scope → Running R J → World → Type 0
+IsButForRows g h scope r w = IsAmong (unknown_rows g) h scope r w
 
 -- the running world is this world, but for what its journal holds
-abbrev pub IsButForEntries : {R J : Type 0} → Registries R → Journals J → Names → Running R J → World → Type 0
-IsButForEntries g h ours r w = IsAmong g (unknown_entries h) ours r w
+abbrev pub IsButForEntries : {R J : Type 0} → Registries R → Journals J → Scope → Running R J → World → Type 0
+IsButForEntries g h scope r w = IsAmong g (unknown_entries h) scope r w
 
 -- ---- what an event does
 
@@ -44,7 +43,7 @@ pub record FailsOn {R J : Type 0} (g : Registries R) (h : Journals J) (old new :
     (event : Event) (fault : WorldFault) : Type 0 where
   pub but_for_rows : (ReadsRegistry old event → ⊥) → Fails (unknown_rows g) h old new event fault
   pub but_for_entries : (ReadsJournal event → ⊥) → Fails g (unknown_entries h) old new event fault
-  pub rows_unknown : ReadsRegistry old event → {ours : Names} (w : World) → IsButForRows g h ours old w
-      → IsButForRows g h ours new w
-  pub entries_unknown : (ReadsRegistry old event → ⊥) → {ours : Names} (w : World) → IsButForEntries g h ours old w
-      → IsButForEntries g h ours new (if_restart w event)
+  pub rows_unknown : ReadsRegistry old event → {scope : Scope} (w : World) → IsButForRows g h scope old w
+      → IsButForRows g h scope new w
+  pub entries_unknown : (ReadsRegistry old event → ⊥) → {scope : Scope} (w : World) → IsButForEntries g h scope old w
+      → IsButForEntries g h scope new (if_restart w event)

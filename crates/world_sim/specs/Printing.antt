@@ -7,14 +7,13 @@ use Rattle.std.specs.Io.KnownBytes.{Appends}
 use Rattle.scim_key.specs.declared.records.RecordName.{RecordName}
 use Rattle.provider_core.specs.declared.registry.Registry.{Ghosts as Registries}
 use Rattle.journal_core.specs.declared.journals.Journal.{Ghosts as Journals}
-use Rattle.world_model.specs.Invariant.{Names}
 use Rattle.world_model.specs.Reports.{reports as model_reports}
 use Rattle.world_model.specs.World.{World, Event, empty, names as world_names, run}
 use Rattle.world_sim.specs.Events.{report_of}
 use Rattle.world_sim.specs.Following.{EndsTelling, RunsTelling}
 use Rattle.world_sim.specs.Lines.{count_text, others_text, report_text, view_text}
 use Rattle.world_sim.specs.Messages.{message_size}
-use Rattle.world_sim.specs.Running.{IsAmong, IsSound}
+use Rattle.world_sim.specs.Running.{IsAmong, IsSound, Scope}
 use Rattle.world_sim.specs.Settling.{IsSettling, Settles}
 use Rattle.world_sim.specs.Views.{view}
 use Rattle.world_sim.specs.declared.following.TellingFault.{TellingFault}
@@ -98,16 +97,16 @@ pub record ShowsEach {R J : Type 0} (g : Registries R) (h : Journals J) (old new
     (names : List RecordName) (views : List View) : Type 0 where
   pub was : IsSound g h new → IsSound g h old
   pub base : new.service ≡ old.service
-  pub is : IsSound g h new → {ours : Names} (w : World) → IsAmong g h ours old w → IsAmong g h ours new w
-  pub shown : IsSound g h new → {ours : Names} (w : World) → IsAmong g h ours old w → views ≡ map (view w) names
+  pub is : IsSound g h new → {scope : Scope} (w : World) → IsAmong g h scope old w → IsAmong g h scope new w
+  pub shown : IsSound g h new → {scope : Scope} (w : World) → IsAmong g h scope old w → views ≡ map (view w) names
 
 -- a look at every record: each world that ran before runs after it, and these are the views of its records, in order
 pub record ShowsAll {R J : Type 0} (g : Registries R) (h : Journals J) (old new : Running R J) (views : List View)
     : Type 0 where
   pub was : IsSound g h new → IsSound g h old
   pub base : new.service ≡ old.service
-  pub is : IsSound g h new → {ours : Names} (w : World) → IsAmong g h ours old w → IsAmong g h ours new w
-  pub shown : IsSound g h new → {ours : Names} (w : World) → IsAmong g h ours old w
+  pub is : IsSound g h new → {scope : Scope} (w : World) → IsAmong g h scope old w → IsAmong g h scope new w
+  pub shown : IsSound g h new → {scope : Scope} (w : World) → IsAmong g h scope old w
       → views ≡ map (view w) (world_names w)
 
 -- records were settled if that was asked for, and then shown, each with its line

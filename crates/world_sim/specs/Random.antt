@@ -1,6 +1,6 @@
 -- The events that a seed draws.
 use Rattle.std.specs.Prelude.{ℕ, zero, suc, ◌+◌, ◌/◌, ◌%◌, ◌==◌, List, [], ◌∷◌, ◌++◌, Option, Some}
-use Rattle.std.specs.Prelude.{codes, if◌then◌else◌, min, nat_lt, replicate, slice_index, slice_set}
+use Rattle.std.specs.Prelude.{codes, if◌then◌else◌, map, min, nat_lt, replicate, slice_index, slice_set}
 use Rattle.std.specs.List.{slice_index_or}
 use Rattle.std.specs.Fmt.{decimal}
 use Rattle.std.specs.Option.{option_map}
@@ -12,7 +12,9 @@ use Rattle.scim_key.specs.declared.records.Kind.{Kind}
 use Rattle.scim_key.specs.declared.records.Kind.TheVariants.{User, Group}
 use Rattle.scim_filter.specs.Names.{record_named}
 use Rattle.source_csv.specs.Fields.{Record}
-use Rattle.world_sim.specs.Schedules.{change_in}
+use Rattle.world_sim.specs.Schedules.{change_in, row_in}
+use Rattle.world_sim.specs.declared.acting.Act.{Act}
+use Rattle.world_sim.specs.declared.acting.Act.TheVariants as acts
 use Rattle.world_sim.specs.declared.events.Event.{Event}
 use Rattle.world_sim.specs.declared.events.Event.TheVariants as events
 use Rattle.world_sim.specs.declared.several.Turn.{Turn}
@@ -90,6 +92,40 @@ drawn records_in generator counters (suc count) =
 -- The events of a seed: all counters begin at 0
 abbrev pub seed_draws : (List ℕ → List Record) → (seed count : ℕ) → List (Option Event)
 seed_draws records_in seed count = drawn records_in (pcg32_of_seed (pcg32_seed 16 seed)) (0 ∷ 0 ∷ 0 ∷ 0 ∷ []) count
+
+-- ---- a random start
+
+-- what the name of a record that is held at the start ends in: nothing if it is one of the source, and else a digit
+abbrev pub suffix_drawn : (rest : ℕ) → List ℕ
+suffix_drawn rest = if rest % 2 == 0 then [] else decimal (rest / 8 % 8)
+
+-- the record that is held at the start, by the higher half of a word: at a revision from 1 to 9
+unfoldable pub held_drawn : (List ℕ → List Record) → (rest : ℕ) → Option Act
+held_drawn records_in rest =
+    option_map acts.Holds (row_in records_in (kind_at (rest / 2 % 4))
+    (record_at (suffix_drawn rest) (rest / 2 % 4) (1 + rest / 64 % 9)))
+
+-- the next records of a generator, each by its next word
+abbrev pub holds_drawn : (List ℕ → List Record) → Lcg → (count : ℕ) → List (Option Act)
+holds_drawn records_in generator zero = []
+holds_drawn records_in generator (suc count) =
+    held_drawn records_in ((pcg32 generator).0 / 65_536) ∷ holds_drawn records_in (pcg32 generator).1 count
+
+-- 1 to 36 records, as the first word says
+abbrev pub start_drawn : (List ℕ → List Record) → Lcg → List (Option Act)
+start_drawn records_in generator =
+    holds_drawn records_in (pcg32 generator).1 (1 + (pcg32 generator).0 / 65_536 % 36)
+
+-- The start of a seed
+abbrev pub seed_holds : (List ℕ → List Record) → (seed : ℕ) → List (Option Act)
+seed_holds records_in seed = start_drawn records_in (pcg32_of_seed (pcg32_seed 16 seed))
+
+-- and then its events: all counters begin at 9, so that the source's revisions are above those that are held
+abbrev pub seed_draws_acts : (List ℕ → List Record) → (seed count : ℕ) → List (Option Act)
+seed_draws_acts records_in seed count =
+    seed_holds records_in seed
+    ++ map (option_map acts.Ours)
+    (drawn records_in (pcg32_of_seed (pcg32_seed 16 seed)) (9 ∷ 9 ∷ 9 ∷ 9 ∷ []) count)
 
 -- ---- turns of several connectors
 

@@ -22,7 +22,7 @@ use Rattle.world_model.specs.Untroubled.{IsLawful}
 use Rattle.world_model.specs.Invariant.{Names, all_names}
 use Rattle.world_model.specs.Others.{Act, KeepsApart, OfOurs, run_among}
 use Rattle.world_model.specs.Room.{IsLawfulAct}
-use Rattle.world_sim.specs.Fitting.{IsFormed}
+use Rattle.world_sim.specs.Fitting.{IsFitStart, IsFormed}
 use Rattle.world_sim.specs.Messages.{IsMessage, message_text, message_size, messages_of, texts_of}
 use Rattle.world_sim.specs.Events.{report_of}
 use Rattle.world_sim.specs.Transitions.{FailsAfter}
@@ -91,12 +91,22 @@ pub record IsReached (w : World) : Type 0 where
   pub lawful : AllByRecursion IsLawful events
   pub is : run empty events ≡ w
 
--- Acts lead to the world: our valid events, and requests of others who leave our records alone
-pub record IsReachedAmong (ours : Names) (w : World) : Type 0 where
+-- Whose records are ours, and the start: what the provider held and the connector knew before the first act
+pub record Scope : Type 0 where
+  pub ours : Names
+  pub start : World
+
+-- the empty start
+abbrev pub from_empty : Names → Scope
+from_empty ours = record { ours = ours; start = empty }
+
+-- Acts lead from the start to the world: our valid events, and requests of others who leave our records alone
+pub record IsReachedAmong (scope : Scope) (w : World) : Type 0 where
+  pub begins : IsFitStart scope.ours scope.start
   pub acts : List Act
-  pub apart : KeepsApart ours acts
+  pub apart : KeepsApart scope.ours acts
   pub lawful : AllByRecursion IsLawfulAct acts
-  pub is : run_among empty acts ≡ w
+  pub is : run_among scope.start acts ≡ w
 
 -- The running world has the parts of this world: its rows, also if the registry is opened again; its book, also if the
 -- journal is opened again, but for what was seen; and its messages, each with the bytes that are formed for it
@@ -116,36 +126,36 @@ pub record Is {R J : Type 0} (g : Registries R) (h : Journals J) (r : Running R 
   pub base : IsBase r.service
   pub reached : IsReached w
 
--- The running world is this world among others, at a valid base
-pub record IsAmong {R J : Type 0} (g : Registries R) (h : Journals J) (ours : Names) (r : Running R J) (w : World)
+-- The running world is this world among others, from this start, at a valid base
+pub record IsAmong {R J : Type 0} (g : Registries R) (h : Journals J) (scope : Scope) (r : Running R J) (w : World)
     : Type 0 where
   pub mirrors : Mirrors g h r w
   pub base : IsBase r.service
-  pub reached : IsReachedAmong ours w
+  pub reached : IsReachedAmong scope w
 
 -- Without others: each record is ours, and then it is the same whether others may act or not
 abbrev pub IsAlone : {R J : Type 0} → Registries R → Journals J → Type 0
-IsAlone {R} {J} g h = (r : Running R J) (w : World) → Is g h r w ↔ IsAmong g h all_names r w
+IsAlone {R} {J} g h = (r : Running R J) (w : World) → Is g h r w ↔ IsAmong g h (from_empty all_names) r w
 
 -- ---- what an event does
 
 -- What was done, with its report. If the stores are sound after it, they were sound before, an open store stays open,
 -- and `after` holds for each world that ran before
 pub record Makes {R J S T : Type 0} (g : Registries R) (h : Journals J) (old new : Running R J)
-    (after : Names → World → Type 0) (says : World → S) (meaning : T → S) (told : T) : Type 0 where
+    (after : Scope → World → Type 0) (says : World → S) (meaning : T → S) (told : T) : Type 0 where
   pub was : IsSound g h new → IsSound g h old
   pub base : new.service ≡ old.service
   pub stays_open : IsSound g h new → g.is_faithful old.provider → g.is_faithful new.provider
   pub journal_open : IsSound g h new → h.is_faithful (journal_in old.connector)
       → h.is_faithful (journal_in new.connector)
-  pub is : IsSound g h new → {ours : Names} (w : World) → IsAmong g h ours old w → after ours w
-  pub report : IsSound g h new → {ours : Names} (w : World) → IsAmong g h ours old w → meaning told ≡ says w
+  pub is : IsSound g h new → {scope : Scope} (w : World) → IsAmong g h scope old w → after scope w
+  pub report : IsSound g h new → {scope : Scope} (w : World) → IsAmong g h scope old w → meaning told ≡ says w
 
 -- One event: for each world that ran before it, the world after the event runs now. A row that is offered is one of our
 -- records
 abbrev pub Happens : {R J : Type 0} → Registries R → Journals J → (old new : Running R J) → Event → ReportOf → Type 0
 Happens g h old new event told =
-    Makes g h old new (λ ours w. OfOurs ours event → IsAmong g h ours new (happens w event))
+    Makes g h old new (λ scope w. OfOurs scope.ours event → IsAmong g h scope new (happens w event))
     (λ w. report (message_size old.service) w event) report_of told
 
 -- a request was sent: it is the last message, in its bytes, and nothing else changed
@@ -162,7 +172,7 @@ pub record Posts {R J : Type 0} (old new : Running R J) (request : Request) (tol
 -- a message arrives: the running world has the parts of the world after that
 abbrev pub Arrives : {R J : Type 0} → Registries R → Journals J → (old new : Running R J) → Message → ReportOf → Type 0
 Arrives g h old new message told =
-    Makes g h old new (λ ours w. Mirrors g h new (arrives w message)) (λ w. arrival_report w message) report_of
+    Makes g h old new (λ scope w. Mirrors g h new (arrives w message)) (λ w. arrival_report w message) report_of
     told
 
 -- ---- faults
@@ -239,9 +249,9 @@ pub record Fails {R J : Type 0} (g : Registries R) (h : Journals J) (old new : R
   pub was : IsSound g h new → IsSound g h old
   pub base : new.service ≡ old.service
   pub sent : new.sent.items ≡ old.sent.items
-  pub is : IsSound g h new → IsKnown g h old new event → {ours : Names} (w : World) → IsAmong g h ours old w
-      → IsAmong g h ours new (if_restart w event)
-  pub leaves : IsSound g h new → {ours : Names} (w : World) → IsAmong g h ours old w
+  pub is : IsSound g h new → IsKnown g h old new event → {scope : Scope} (w : World) → IsAmong g h scope old w
+      → IsAmong g h scope new (if_restart w event)
+  pub leaves : IsSound g h new → {scope : Scope} (w : World) → IsAmong g h scope old w
       → HoldsOneOf g h new w (happens w event)
   pub excused : IsExcused g h old new event fault
 
@@ -251,9 +261,9 @@ pub record FailsToArrive {R J : Type 0} (g : Registries R) (h : Journals J) (old
   pub was : IsSound g h new → IsSound g h old
   pub base : new.service ≡ old.service
   pub sent : new.sent.items ≡ old.sent.items
-  pub is : IsSound g h new → IsOpenTo g h new (Some message) → {ours : Names} (w : World) → IsAmong g h ours old w
-      → IsAmong g h ours new w
-  pub leaves : IsSound g h new → {ours : Names} (w : World) → IsAmong g h ours old w
+  pub is : IsSound g h new → IsOpenTo g h new (Some message) → {scope : Scope} (w : World) → IsAmong g h scope old w
+      → IsAmong g h scope new w
+  pub leaves : IsSound g h new → {scope : Scope} (w : World) → IsAmong g h scope old w
       → HoldsOneOf g h new w (arrives w message)
   pub excused : (number : ℕ) → IsExcused g h old new (Delivers number) fault
 
@@ -313,7 +323,7 @@ pub record Starts {R J : Type 0} (g : Registries R) (h : Journals J) (registry :
   pub stays_open : g.is_faithful registry → g.is_faithful r.provider
   pub journal_open : IsSound g h r → h.is_faithful (journal_in r.connector)
   pub is : IsSound g h r → g.is_faithful registry → g.rows registry ≡ [] → h.entries journal ≡ fin.empty
-      → (ours : Names) → IsAmong g h ours r empty
+      → (ours : Names) → IsAmong g h (from_empty ours) r empty
 
 -- events one after the other, with their reports. Each row that is offered is one of our records
 pub record Runs {R J : Type 0} (g : Registries R) (h : Journals J) (old new : Running R J)
@@ -323,10 +333,10 @@ pub record Runs {R J : Type 0} (g : Registries R) (h : Journals J) (old new : Ru
   pub stays_open : IsSound g h new → g.is_faithful old.provider → g.is_faithful new.provider
   pub journal_open : IsSound g h new → h.is_faithful (journal_in old.connector)
       → h.is_faithful (journal_in new.connector)
-  pub is : IsSound g h new → {ours : Names} (w : World) → IsAmong g h ours old w → AllByRecursion (OfOurs ours) events
-      → IsAmong g h ours new (run w events)
-  pub told_so : IsSound g h new → {ours : Names} (w : World) → IsAmong g h ours old w
-      → AllByRecursion (OfOurs ours) events
+  pub is : IsSound g h new → {scope : Scope} (w : World) → IsAmong g h scope old w
+      → AllByRecursion (OfOurs scope.ours) events → IsAmong g h scope new (run w events)
+  pub told_so : IsSound g h new → {scope : Scope} (w : World) → IsAmong g h scope old w
+      → AllByRecursion (OfOurs scope.ours) events
       → map report_of told ≡ reports (message_size old.service) w events
 
 -- an event failed, with all that is known of that

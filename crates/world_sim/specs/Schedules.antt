@@ -134,10 +134,12 @@ typed_row_in records_in text =
     else if bytes_eq (first_word text) (codes "group") then row_in records_in kind.Group (behind text)
     else None
 
--- the act of a line with this first word, and this text after its first space: `other` and a row, or an event
+-- the act of a line with this first word, and this text after its first space: `other` or `held` and a row, or an
+-- event
 unfoldable pub act_of_words : (List ℕ → List Record) → (word rest : List ℕ) → Option Act
 act_of_words records_in word rest =
     if bytes_eq word (codes "other") then option_map acts.WritesRow (typed_row_in records_in rest)
+    else if bytes_eq word (codes "held") then option_map acts.Holds (typed_row_in records_in rest)
     else option_map acts.Ours (event_of_words records_in word rest)
 
 -- The act in a line
@@ -145,7 +147,7 @@ abbrev pub act_in : (List ℕ → List Record) → List ℕ → Option Act
 act_in records_in line = act_of_words records_in (first_word line) (behind line)
 
 -- The acts in the lines of a schedule, which are numbered from 1, or the first line that is neither an event nor what
--- others write
+-- others write nor what is held
 abbrev pub acts_in : (List ℕ → List Record) → List ℕ → Result (List Act) ScheduleFault
 acts_in records_in text = said_from (act_in records_in) 1 (lines text)
 

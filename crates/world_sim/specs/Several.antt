@@ -16,7 +16,7 @@ use Rattle.world_model.specs.Several.{NoneShared, EachItsOwn}
 use Rattle.world_model.specs.World.{World, Message, Event}
 use Rattle.world_sim.specs.Events.{event_of, report_of}
 use Rattle.world_sim.specs.Messages.{message_size}
-use Rattle.world_sim.specs.Running.{FailsOurs, Happens, IsAmong, IsSound, Starts, journal_in}
+use Rattle.world_sim.specs.Running.{FailsOurs, Happens, IsAmong, IsSound, Starts, from_empty, journal_in}
 use Rattle.world_sim.specs.Settling.{IsSettling, Settles, Stops}
 use Rattle.world_sim.specs.Sides.{CountsWorldFault}
 use Rattle.world_sim.specs.declared.reports.WorldFault.{WorldFault}
@@ -66,7 +66,7 @@ pub record AreAmong {R J : Type 0} (g : Registries R) (h : Journals J) (ours : �
     (s : Shared) : Type 0 where
   pub none_shared : NoneShared ours
   pub each : (place : ℕ) (seat : Seat J) → IsSeatAt r place seat
-      → IsAmong g h (ours place) (seated r.first seat) (world_at s place)
+      → IsAmong g h (from_empty (ours place)) (seated r.first seat) (world_at s place)
 
 -- ---- one turn
 

@@ -10,11 +10,10 @@ use Rattle.provider_core.specs.Rows.{row_named}
 use Rattle.provider_core.specs.declared.registry.Registry.{Ghosts as Registries}
 use Rattle.journal_core.specs.declared.journals.Journal.{Ghosts as Journals}
 use Rattle.connector_core.specs.Book.{confirmed_of, wanted_of}
-use Rattle.world_model.specs.Invariant.{Names}
 use Rattle.world_model.specs.World.{World, message_at}
 use Rattle.world_model.specs.Safe.{rows}
 use Rattle.world_sim.specs.Messages.{message_text}
-use Rattle.world_sim.specs.Running.{IsAmong, IsSound, is_open, opens_of}
+use Rattle.world_sim.specs.Running.{IsAmong, IsSound, Scope, is_open, opens_of}
 use Rattle.world_sim.specs.declared.reports.WorldFault.{WorldFault}
 use Rattle.world_sim.specs.declared.reports.WorldFault.TheVariants.{Memory, Store}
 use Rattle.world_sim.specs.declared.sides.Side.{Side}
@@ -49,12 +48,12 @@ view w name = viewed name (wanted_of w.book name) (confirmed_of w.book name) (ro
 -- this is the view of each world that runs
 abbrev pub Shows : {R J : Type 0} → Registries R → Journals J → (old new : Running R J) → RecordName → View → Type 0
 Shows g h old new name shown =
-    IsSound g h new → (ours : Names) (w : World) → IsAmong g h ours old w → shown ≡ view w name
+    IsSound g h new → (scope : Scope) (w : World) → IsAmong g h scope old w → shown ≡ view w name
 
 -- these are the bytes of the message with this number, counted from 1, in each world that runs
 abbrev pub ShowsMessage : {R J : Type 0} → Registries R → Journals J → Running R J → (number : ℕ) → Option (List ℕ)
     → Type 0
-ShowsMessage g h r number shown = (ours : Names) (w : World) → IsAmong g h ours r w
+ShowsMessage g h r number shown = (scope : Scope) (w : World) → IsAmong g h scope r w
     → shown ≡ option_map (message_text r.service) (message_at w.messages number)
 
 -- ---- faults
@@ -77,4 +76,4 @@ pub record Looks {R J : Type 0} (g : Registries R) (h : Journals J) (old new : R
   pub base : new.service ≡ old.service
   pub sent : new.sent.items ≡ old.sent.items
   pub opens : opens_of new ≡ opens_of old
-  pub is : IsSound g h new → {ours : Names} (w : World) → IsAmong g h ours old w → IsAmong g h ours new w
+  pub is : IsSound g h new → {scope : Scope} (w : World) → IsAmong g h scope old w → IsAmong g h scope new w

@@ -1,12 +1,13 @@
 //! Acts among others: our events, and what others write at the same provider.
-ghost use Rattle.std.specs.Prelude.{◌≡◌, IfErr, IfOk};
-ghost use Rattle.world_sim.specs.Amid.{Does, FailsToDo};
+ghost use Rattle.std.specs.Prelude.{◌≡◌, IfErr, IfOk, OnOk};
+ghost use Rattle.world_sim.specs.Amid.{Does, FailsToDo, after_act};
+ghost use Rattle.world_sim.specs.Acts.{Leads};
 ghost use Rattle.world_sim.specs.declared.acting.Act.TheVariants as acts;
 
 use crate::events::Event;
 use crate::imaging::{RowRequest, row_request};
 use crate::reports::{Report, WorldFault};
-use crate::worlds::World;
+use crate::worlds::{World, keeps_limits};
 use journal_core::{Journal, ReopenJournal};
 use provider_core::{Registry, Reopen};
 use scim_key::Key;
@@ -27,6 +28,9 @@ pub enum Act {
     /// Others write the image of this row. Its members have the ids that the provider's rows give now. If a
     /// member has none, nothing is written.
     WritesRow(Row),
+    /// The provider holds the image of this row before our first event: somebody wrote it before, whosever record
+    /// it is.
+    Holds(Row),
 }
 
 /// What an act reports.
@@ -62,6 +66,8 @@ impl<R: Registry + Drop, J: Journal + Drop> World<R, J> {
             (Does R.Registry J.Journal self.old self.new (acts.Asks request.now)) }
         ensures fails { IfErr result
             (FailsToDo R.Registry J.Journal self.old self.new (acts.Asks request.now)) }
+        ensures mirrors { OnOk result (Leads R.Registry J.Journal self.old self.new
+            (λ w. after_act w (acts.Asks request.now))) }
     {
         match self.arrive(request) {
             Ok(status) => Ok(ActReport::Others(status)),
@@ -89,6 +95,8 @@ impl<R: Registry + Drop, J: Journal + Drop> World<R, J> {
             (Does R.Registry J.Journal self.old self.new (acts.WritesRow row.now)) }
         ensures fails { IfErr result
             (FailsToDo R.Registry J.Journal self.old self.new (acts.WritesRow row.now)) }
+        ensures mirrors { OnOk result (Leads R.Registry J.Journal self.old self.new
+            (λ w. after_act w (acts.WritesRow row.now))) }
     {
         if !self.is_provider_open {
             return Err(WorldFault::Store);
@@ -97,6 +105,17 @@ impl<R: Registry + Drop, J: Journal + Drop> World<R, J> {
             RowRequest::Waits(member) => Ok(ActReport::Waits(member)),
             RowRequest::Asks(request) => self.arrive_theirs(&request),
         }
+    }
+
+    /// The provider holds the image of this row at the start.
+    fn hold(&mut self, row: &Row) -> Result<ActReport, WorldFault>
+        ensures done { IfOk result
+            (Does R.Registry J.Journal self.old self.new (acts.Holds row.now)) }
+        ensures fails { IfErr result
+            (FailsToDo R.Registry J.Journal self.old self.new (acts.Holds row.now)) }
+    {
+        keeps_limits(row);
+        self.write_row(row)
     }
 }
 
@@ -125,6 +144,7 @@ impl<R: Reopen + Drop, J: ReopenJournal + Drop> World<R, J> {
             Act::Asks(request) => self.arrive_theirs(request),
             Act::Writes(content) => self.write_theirs(content),
             Act::WritesRow(row) => self.write_row(row),
+            Act::Holds(row) => self.hold(row),
         }
     }
 }

@@ -33,7 +33,7 @@ pub use following::{Follow, TellingFault};
 pub use laws::{answers_fit, messages_are_read, without_others};
 pub use printing::{Printed, ReportLines, print_run};
 pub use printing_among::{PrintedAmong, print_run_among};
-pub use random::random_schedule;
+pub use random::{random_from_any_start, random_schedule};
 pub use reports::{Report, WorldFault};
 pub use runs::{run, run_telling};
 pub use schedules::{NUMBER_DIGITS, ScheduleFault, read_acts, read_schedule, said_lines};

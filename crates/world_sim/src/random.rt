@@ -1,14 +1,15 @@
 //! Random schedules.
 ghost use Rattle.std.specs.Prelude.{◌≡◌, ◌<◌, IfOk, List, OnOk, Some, length, map, slice_index, slice_set, string_bytes, ℕ};
 ghost use Rattle.source_csv.specs.Fields.{Record};
-ghost use Rattle.world_sim.specs.Random.{counters_after, event_drawn, kind_at, letter_at, message_drawn, name_at, record_at, risen, seed_draws, status_at, trouble_drawn};
+ghost use Rattle.world_sim.specs.Random.{counters_after, event_drawn, held_drawn, kind_at, letter_at, message_drawn, name_at, record_at, risen, seed_draws, seed_draws_acts, seed_holds, status_at, suffix_drawn, trouble_drawn};
 ghost use Rattle.world_sim.specs.Schedules.{ReadsFiles, change_in};
 ghost use Rattle.scim_filter.specs.Names.{record_named};
 ghost use Rattle.std.specs.Option.{option_map};
 ghost use Rattle.world_sim.specs.declared.events.Event.TheVariants as events;
 
+use crate::acting::Act;
 use crate::events::Event;
-use crate::schedules::{change_in, record_named};
+use crate::schedules::{change_in, record_named, row_in};
 use rand_core::SeedableRng;
 use rand_core::utils::NextWord;
 use rand_pcg::Lcg64Xsh32;
@@ -20,6 +21,15 @@ const MESSAGES: u32 = 64;
 
 /// Lengths of cut messages are drawn below this.
 const LENGTHS: u32 = 50;
+
+/// The most records that a random start holds.
+const HELD_RECORDS: u32 = 36;
+
+/// A random start is drawn by the higher half of each word; the events of the same words go by the lower.
+const HIGHER: u32 = 65_536;
+
+/// At a random start records are held at revisions from 1 to this. The source's are above it.
+const HELD_REVISIONS: u32 = 9;
 
 /// The last revision of each record: of three users and a group.
 pub(crate) type Revisions = [u32; 4];
@@ -166,4 +176,67 @@ pub fn random_schedule(alloc: Global, seed: u64, count: u32) -> Result<Vec<Event
         events.push(event_drawn(alloc, "", &mut revisions, word)?)?;
     }
     Ok(events)
+}
+
+/// What the name of a record that is held at a random start ends in: nothing if it is a record of the source, and
+/// else a digit.
+fn suffix(alloc: Global, rest: u32) -> Result<String, AllocError>
+    ensures { IfOk result (λ suffix. string_bytes suffix ≡ suffix_drawn rest) }
+{
+    if rest % 2 == 0 {
+        format!(in alloc; "")
+    } else {
+        format!(in alloc; "{}", rest / 8 % 8)
+    }
+}
+
+/// The row of a record that is held at a random start, by the higher half of a word.
+#[tactic(auto, unfolding(crate::specs::Random::held_drawn))]
+fn held_drawn(alloc: Global, rest: u32) -> Result<Act, AllocError>
+    ensures { (records_in : List ℕ → List Record) → ReadsFiles records_in
+        → IfOk result (λ act. held_drawn records_in rest ≡ Some act) }
+{
+    let place = (rest / 2 % 4) as usize;
+    let suffix = suffix(alloc, rest)?;
+    let text = record_text(
+        alloc,
+        suffix.as_str(),
+        place,
+        1 + rest / 64 % HELD_REVISIONS,
+    )?;
+    row_in(alloc, kind_of(place), text.as_str())?
+        .map(Act::Holds)
+        .ok_or(AllocError)
+}
+
+/// What the provider holds at the random start of this seed.
+fn random_start(alloc: Global, seed: u64) -> Result<Vec<Act>, AllocError>
+    ensures { (records_in : List ℕ → List Record) → ReadsFiles records_in
+        → IfOk result (λ acts. map Some acts.items ≡ seed_holds records_in seed) }
+{
+    let mut words = Lcg64Xsh32::seed_from_u64(seed);
+    let held = 1 + words.next_word() / HIGHER % HELD_RECORDS;
+    let mut acts = Vec::new(alloc);
+    for _ in 0..held {
+        let word = words.next_word();
+        acts.push(held_drawn(alloc, word / HIGHER)?)?;
+    }
+    Ok(acts)
+}
+
+/// A random start of this seed, up to 36 records that the provider holds, and then events of the same seed.
+/// Some are records of the source, at lower revisions than the source offers.
+pub fn random_from_any_start(alloc: Global, seed: u64, events: u32) -> Result<Vec<Act>, AllocError>
+    ensures { (records_in : List ℕ → List Record) → ReadsFiles records_in
+        → IfOk result (λ acts. map Some acts.items ≡ seed_draws_acts records_in seed events) }
+{
+    let mut acts = random_start(alloc, seed)?;
+    let mut words = Lcg64Xsh32::seed_from_u64(seed);
+    let mut revisions = [HELD_REVISIONS; 4];
+    for _ in 0..events {
+        let word = words.next_word();
+        let event = event_drawn(alloc, "", &mut revisions, word)?;
+        acts.push(Act::Ours(event))?;
+    }
+    Ok(acts)
 }

@@ -113,7 +113,7 @@ fn row_under(
 
 /// The row that a record of this kind is.
 #[tactic(auto, unfolding(crate::specs::Schedules::row_in))]
-fn row_in(alloc: Global, kind: Kind, text: &str) -> Result<Option<Row>, AllocError>
+pub(crate) fn row_in(alloc: Global, kind: Kind, text: &str) -> Result<Option<Row>, AllocError>
     ensures { (records_in : List ℕ → List Record) → ReadsFiles records_in
         → IfOk result (λ row. row ≡ spec.row_in records_in kind text.now) }
 {
@@ -291,6 +291,7 @@ fn act_in(alloc: Global, line: &str) -> Result<Option<Act>, AllocError>
     let (word, rest) = words_of(line);
     match word {
         "other" => Ok(typed_row_in(alloc, rest)?.map(Act::WritesRow)),
+        "held" => Ok(typed_row_in(alloc, rest)?.map(Act::Holds)),
         _ => Ok(event_in(alloc, line)?.map(Act::Ours)),
     }
 }
@@ -367,7 +368,8 @@ pub fn read_schedule(alloc: Global, text: &str) -> Result<Vec<Event>, ScheduleFa
 }
 
 /// Reads a schedule among others. Its lines are those that `read_schedule` reads, and `other user` or `other
-/// group` with a record of a file of that kind, whose image others write.
+/// group` with a record of a file of that kind, whose image others write, and `held user` or `held group` with
+/// one, whose image the provider holds at the start.
 pub fn read_acts(alloc: Global, text: &str) -> Result<Vec<Act>, ScheduleFault>
     ensures { (records_in : List ℕ → List Record) → ReadsFiles records_in
         → GivesBy (λ acts. acts.items) ScheduleFault.Memory result

@@ -1,4 +1,5 @@
 //! Records that others write and that aren't ours.
+ghost use Rattle.std.specs.Option.{option_copied};
 ghost use Rattle.std.specs.Prelude.{◌≡◌, IfOk, List};
 ghost use Rattle.mapping.specs.Settling.{IsSettleOrder};
 ghost use Rattle.scim_key.specs.declared.records.RecordName.{RecordName};
@@ -9,6 +10,7 @@ use crate::acting::Act;
 use crate::events::Event;
 use mapping::settle_order;
 use scim_key::RecordName;
+use source_csv::Row;
 use std::alloc::{AllocError, Global};
 use std::collections::BTreeSet;
 
@@ -23,6 +25,17 @@ fn set_of(alloc: Global, names: &[RecordName]) -> Result<BTreeSet<RecordName>, A
     Ok(set)
 }
 
+/// The row of which others write the image by this act, or of which the provider holds the image at the start.
+fn written(act: &Act) -> Option<&Row>
+    ensures { option_copied result ≡ spec.written act.now }
+{
+    match act {
+        Act::WritesRow(row) => Some(row),
+        Act::Holds(row) => Some(row),
+        Act::Ours(_) | Act::Asks(_) | Act::Writes(_) => None,
+    }
+}
+
 /// The record that others write by the row of this act, if it isn't known.
 fn met(
     alloc: Global,
@@ -32,7 +45,7 @@ fn met(
     ensures { (names : List RecordName) → HasNames known.now names
         → IfOk result (λ name. name ≡ spec.met names act.now) }
 {
-    let Act::WritesRow(row) = act else {
+    let Some(row) = written(act) else {
         return Ok(None);
     };
     let name = row.record_name(alloc)?;

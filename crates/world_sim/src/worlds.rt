@@ -212,7 +212,7 @@ fn cut_short(is_read: bool) -> Report
 }
 
 /// The type of a row guarantees the limits of the source.
-fn keeps_limits(row: &Row)
+pub(crate) fn keeps_limits(row: &Row)
     ensures { IsRow row.now }
 {
     let _ = row.revision();
