@@ -4,8 +4,9 @@ import json
 import socket
 
 from databases import OLDER_FORMS, group_entry, make_journal, make_store, user_entry
+from exchanges import ERROR
 from peers import NO_HITS, Peer, answer, asked, hits, read_request, user
-from support import NOWHERE, PATIENCE, contents, full_disk, resource_id, scimlink
+from support import NOWHERE, PATIENCE, contents, full_disk, resource_id, scimlink, text
 from test_push import PushTest
 
 OLDER = "journal fault: it is of an older format, and this command changes nothing"
@@ -29,10 +30,12 @@ class CheckTest(PushTest):
         return scimlink("check", "--journal", self.site.journal, "--to", to, *options, **more)
 
     def assert_checks(self, to, *lines, status=1, errors=(), options=()):
-        """A check prints these lines, and leaves the journal as it is."""
+        """A check that prints these lines, and leaves the journal as it is."""
         before = self.site.journal.read_bytes()
-        self.assert_prints(self.check(to, *options), *lines, status=status, errors=errors)
+        run = self.check(to, *options)
+        self.assert_prints(run, *lines, status=status, errors=errors)
         self.assertEqual(self.site.journal.read_bytes(), before)
+        return run
 
     def checks(self, searches, *lines, status=1, options=(), changed=()):
         """A check of what a provider over the store has, after somebody replaced parts of these resources by hand. The
@@ -52,10 +55,12 @@ class CheckTest(PushTest):
         body = json.dumps({name: value for name, value in shown.items() if name != "id"} | parts)
         self.assertEqual(provider.ask("PUT", path, body, If_Match=shown["meta"]["version"]).status, 200)
 
-    def meets(self, steps, *lines, status=1, options=()):
-        """A check of what a provider by script answers: the first lines of the requests that it gets."""
+    def meets(self, steps, *lines, status=1, said=(), options=()):
+        """A check of what a provider by script answers: the first lines of the requests that it gets. `said` is why records
+        are unchecked."""
         with Peer(steps) as peer:
-            self.assert_checks(peer.address, *lines, status=status, options=options)
+            run = self.assert_checks(peer.address, *lines, status=status, options=options)
+        self.assertEqual(run.errors, text(*said))
         return asked(peer.requests)
 
 
@@ -227,12 +232,20 @@ class PeerTest(CheckTest):
 
     def test_unchecked(self):
         make_journal(self.site.journal, [ANN_THERE, user_entry("bob")])
-        several, other = hits(user("bob", 1), user("bob", 1)), hits(user("zoe", 1))
-        for said, code in ((answer(503), "C4"), (b"", "H10"), (b"no response\r\n\r\n", "K1"), (several, "C1"), (other, "C1")):
-            with self.subTest(code=code, said=said):
+        said = [
+            (answer(503, {"schemas": [ERROR], "status": "503", "detail": "too much"}), "C4", '503, "too much"'),
+            (b"", "H10", "the connection ended before an answer"),
+            (b"no response\r\n\r\n", "K1", r'not one HTTP response: "no response\x0D\x0A\x0D\x0A"'),
+            (hits(user("bob", 1), user("bob", 1)), "C1", "2 found, 2 listed"),
+            (hits(user("zoe", 1)), "C1", 'another name, "zoe"'),
+        ]
+        for answered, code, words in said:
+            with self.subTest(code=code, words=words):
                 lines = [f"user {name}: unchecked {code}" for name in ("ann", "bob")]
-                self.assertEqual(self.meets([said, said], *lines, counts(0, 0, 2)), [FIND_ANN, FIND_BOB])
-                self.meets([said, said], *lines, counts(0, 0, 2), options=["--quiet"])
+                why = [f"user {name}: {words}" for name in ("ann", "bob")]
+                asked_for = self.meets([answered] * 2, *lines, counts(0, 0, 2), said=why)
+                self.assertEqual(asked_for, [FIND_ANN, FIND_BOB])
+                self.meets([answered] * 2, *lines, counts(0, 0, 2), said=why, options=["--quiet"])
 
     def test_a_group_that_waits(self):
         make_journal(self.site.journal, [user_entry("ann")], [group_entry("crew", "ann")])

@@ -198,7 +198,7 @@ class PeerTest(RecheckTest):
     def test_an_answer_that_says_nothing(self):
         """The record is doubted, and push asks again."""
         self.keep_bob()
-        requests = self.meets_recheck([answer(500), self.bob()], BOB_CONFIRMED_2, errors=["user bob: unchecked C4"])
+        requests = self.meets_recheck([answer(500), self.bob()], BOB_CONFIRMED_2, errors=["user bob: unchecked C4", "user bob: 500"])
         self.assertEqual(requests, [FIND_BOB] * 2)
 
     def test_a_record_that_is_not_confirmed(self):

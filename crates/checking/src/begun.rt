@@ -5,9 +5,10 @@ ghost use Rattle.provisioning.specs.Openings.{Opens};
 ghost use Rattle.provisioning.specs.declared.faults.RunFault.TheVariants.{Memory};
 ghost use Rattle.checking.specs.Checks.{Begins, IsFound};
 
+use crate::explaining::explain;
 use crate::findings::Finding;
 use crate::looking::{Hindrance, Look, look_up};
-use connector_core::Connector;
+use connector_core::{Connector, Keeps};
 use journal_core::Journal;
 use provisioning::{Dial, Flight, Recording, RunFault, ServiceProvider, hear, open_fault, send_on};
 use scim_key::{RecordName, ResourceId};
@@ -58,10 +59,12 @@ pub(crate) fn begin<J: Journal, D: Dial>(
     Ok(Begun::Asked(flight, wanted, known))
 }
 
-/// Reads the answer, and ends the stream.
+/// Reads the answer, and ends the stream. If the answer says nothing of the record, it has that explained.
 pub(crate) fn finish<D: Dial>(
     alloc: Global,
     dial: &D,
+    keeps: Keeps,
+    name: &RecordName,
     begun: Begun<D::Reader, D::Writer>,
 ) -> Result<Finding, RunFault>
     ensures found { IfOk result (IsFound D.Reader.remaining begun) }
@@ -76,8 +79,9 @@ pub(crate) fn finish<D: Dial>(
                 sent,
             } = flight;
             let (came, recording) = hear(alloc, &request, reader, sent);
-            let Recording { reader, .. } = recording;
+            let Recording { reader, heard } = recording;
             dial.end(reader, writer);
+            explain(alloc, dial, keeps, name, &wanted, &request, &heard, &came);
             Finding::of(wanted, known, came)
         }
         Begun::Hindered(why) => Ok(Finding::Unchecked(why)),

@@ -7,6 +7,7 @@ mod beside;
 mod counts;
 mod differences;
 mod doubtful;
+mod explaining;
 mod findings;
 mod laws;
 mod lines;

@@ -3,21 +3,24 @@ ghost use Rattle.checking.specs.Checks.{ChecksAloud, Concludes};
 ghost use Rattle.checking.specs.Rechecks.{RechecksAt};
 
 use crate::counts::Counts;
+use crate::explaining::Explained;
 use crate::lines::{FindingLines, FindingNotices};
 use crate::rechecking::recheck_all;
 use crate::running::check_all;
 use connector_core::Connector;
 use journal_core::Journal;
-use provisioning::{Remote, RunFault, ServiceProvider, names_in_order, unwritten};
+use provisioning::{Explaining, Remote, RunFault, ServiceProvider, names_in_order, unwritten};
 use std::alloc::Global;
+use std::cell::Cell;
 use std::io::{Eprint, Read, Write};
 use std::net::Net;
 use std::time::Clock;
 use timed_streams::TimedHandle;
 
 /// Asks the provider at an address, HOST:PORT, about every record. It prints a line for each that differs or is
-/// unchecked, in a quiet run fewer, and at the end how many there were.
-pub fn check<'a, N: Net + Clock, J: Journal, W: Write>(
+/// unchecked, in a quiet run fewer, and at the end how many there were. On standard error it says why a record is
+/// unchecked.
+pub fn check<'a, N: Net + Clock + Eprint, J: Journal, W: Write>(
     rt: &'a N,
     alloc: Global,
     service: &ServiceProvider<'_>,
@@ -31,12 +34,27 @@ pub fn check<'a, N: Net + Clock, J: Journal, W: Write>(
         ⟦<TimedHandle<'a, N::Stream, N> as Write>⟧.contents service.now connector.now.book result }
 {
     let names = names_in_order(connector)?;
-    let mut dial = Remote::new(alloc, rt, address);
-    let mut lines = FindingLines { out, is_quiet };
+    let last = Cell::new(None);
+    let mut dial = Explaining {
+        dial: Remote::new(alloc, rt, address),
+        last: &last,
+    };
+    let mut explained = Explained {
+        teller: FindingLines { out, is_quiet },
+        stderr: rt,
+        last: &last,
+    };
     let counts = check_all(
-        alloc, service, connector, &mut dial, &mut lines, names, streams,
+        alloc,
+        service,
+        connector,
+        &mut dial,
+        &mut explained,
+        names,
+        streams,
     );
-    concluded(counts, lines)
+    let Explained { teller, .. } = explained;
+    concluded(counts, teller)
 }
 
 /// Asks the provider at an address about each record whose wanted revision is confirmed, and reports what differs or is
@@ -55,10 +73,18 @@ pub fn recheck<'a, N: Net + Clock + Eprint, J: Journal>(
         ⟦<TimedHandle<'a, N::Stream, N> as Write>⟧.contents service.now
         connector.old connector.new result }
 {
-    let mut dial = Remote::new(alloc, rt, address);
-    let notices = FindingNotices {
+    let last = Cell::new(None);
+    let mut dial = Explaining {
+        dial: Remote::new(alloc, rt, address),
+        last: &last,
+    };
+    let notices = Explained {
+        teller: FindingNotices {
+            stderr: rt,
+            is_quiet,
+        },
         stderr: rt,
-        is_quiet,
+        last: &last,
     };
     recheck_all(alloc, service, connector, &mut dial, notices, streams)
 }

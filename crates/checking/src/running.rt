@@ -10,7 +10,7 @@ use crate::begun::{Pending, begin, finish};
 use crate::counts::Counts;
 use crate::findings::Finding;
 use crate::telling::TellFinding;
-use connector_core::Connector;
+use connector_core::{Connector, Keeps};
 use journal_core::Journal;
 use provisioning::{Dial, RunFault, ServiceProvider, unwritten};
 use scim_key::RecordName;
@@ -62,15 +62,24 @@ fn check_names<J: Journal, D: Dial, T: TellFinding>(
     let mut counts = Counts::new();
     let mut under_way = VecDeque::new(alloc);
     while let Some(name) = waiting.pop_front() {
-        counts = make_room(alloc, dial, teller, &mut under_way, streams, counts)?;
+        counts = make_room(
+            alloc,
+            service.keeps,
+            dial,
+            teller,
+            &mut under_way,
+            streams,
+            counts,
+        )?;
         send(alloc, service, connector, dial, &mut under_way, name)?;
     }
-    report_rest(alloc, dial, teller, under_way, counts)
+    report_rest(alloc, service.keeps, dial, teller, under_way, counts)
 }
 
 /// Reports the first record, if as many are under way as may be.
 fn make_room<D: Dial, T: TellFinding>(
     alloc: Global,
+    keeps: Keeps,
     dial: &D,
     teller: &mut T,
     under_way: &mut VecDeque<Pending<D::Reader, D::Writer>>,
@@ -84,7 +93,7 @@ fn make_room<D: Dial, T: TellFinding>(
         return Ok(counts);
     }
     match under_way.pop_front() {
-        Some(first) => report(alloc, dial, teller, first, counts),
+        Some(first) => report(alloc, keeps, dial, teller, first, counts),
         None => Ok(counts),
     }
 }
@@ -111,6 +120,7 @@ fn send<J: Journal, D: Dial>(
 /// Reports the records that are under way.
 fn report_rest<D: Dial, T: TellFinding>(
     alloc: Global,
+    keeps: Keeps,
     dial: &D,
     teller: &mut T,
     mut under_way: VecDeque<Pending<D::Reader, D::Writer>>,
@@ -120,7 +130,7 @@ fn report_rest<D: Dial, T: TellFinding>(
         (T.noted teller.new) result }
 {
     while let Some(first) = under_way.pop_front() {
-        counts = report(alloc, dial, teller, first, counts)?;
+        counts = report(alloc, keeps, dial, teller, first, counts)?;
     }
     Ok(counts)
 }
@@ -128,6 +138,7 @@ fn report_rest<D: Dial, T: TellFinding>(
 /// Reads the answer about a record, reports the finding, and counts it.
 fn report<D: Dial, T: TellFinding>(
     alloc: Global,
+    keeps: Keeps,
     dial: &D,
     teller: &mut T,
     pending: Pending<D::Reader, D::Writer>,
@@ -137,7 +148,7 @@ fn report<D: Dial, T: TellFinding>(
         (T.noted teller.new) result }
 {
     let Pending { name, begun } = pending;
-    let finding = finish(alloc, dial, begun)?;
+    let finding = finish(alloc, dial, keeps, &name, begun)?;
     let told = tell(teller, &name, &finding);
     counted(counts, &finding, told)
 }

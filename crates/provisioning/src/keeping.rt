@@ -15,7 +15,7 @@ struct Kept {
 /// The last explanation of each record that isn't reported yet and had a fault. At most a window of records
 /// is under way, so each is looked for from the first on.
 #[derive(Drop)]
-pub(crate) struct Explanations {
+pub struct Explanations {
     kept: Vec<Kept>,
 }
 

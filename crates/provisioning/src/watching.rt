@@ -15,7 +15,7 @@ use std::io::Eprint;
 
 /// Opens the streams of another, and keeps the last explanation of each record that isn't reported.
 #[derive(Drop)]
-pub(crate) struct Explaining<'a, D: Drop> {
+pub struct Explaining<'a, D: Drop> {
     pub dial: D,
     pub last: &'a Cell<Option<Explanations>>,
 }
@@ -72,11 +72,23 @@ impl<'a, T: Tell + Drop, E: Eprint> Tell for Explained<'a, T, E> {
 
     fn tell(&mut self, name: &RecordName, pushed: &Pushed) -> io::Result<()> {
         let told = self.teller.tell(name, pushed);
-        let last = take(self.last, name);
-        if let (Standing::Unconfirmed(Some(_)), Some(explanation)) = (&pushed.standing, &last) {
-            report(self.stderr, name, explanation);
-        }
+        let has_fault = matches!(pushed.standing, Standing::Unconfirmed(Some(_)));
+        tell_last(self.stderr, self.last, name, has_fault);
         told
+    }
+}
+
+/// Prints on standard error what the last fault of a record was, if something was kept of it, and the record is reported
+/// with a fault. Nothing is kept of it from then on.
+pub fn tell_last<E: Eprint>(
+    stderr: &E,
+    last: &Cell<Option<Explanations>>,
+    name: &RecordName,
+    has_fault: bool,
+) {
+    let kept = take(last, name);
+    if let (true, Some(explanation)) = (has_fault, &kept) {
+        report(stderr, name, explanation);
     }
 }
 
