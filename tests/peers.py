@@ -104,12 +104,13 @@ def as_far_as_it_is_read(said):
 
 
 def in_pieces(size, said):
-    """An answer that is sent some bytes at a time."""
+    """An answer that is sent some bytes at a time. The other side may end the connection before it came whole."""
 
     def step(stream):
         stream.setsockopt(socket.IPPROTO_TCP, socket.TCP_NODELAY, 1)
-        for place in range(0, len(said), size):
-            stream.sendall(said[place:place + size])
+        with contextlib.suppress(ConnectionError):
+            for place in range(0, len(said), size):
+                stream.sendall(said[place:place + size])
 
     return step
 

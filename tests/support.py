@@ -396,7 +396,7 @@ class ProgramTest(unittest.TestCase):
 
     def assert_reports(self, run, status, *errors):
         """The run ended with this status, and printed these lines on standard error."""
-        self.assertEqual(without_causes(run.errors), text(*errors))
+        self.assertEqual(without_causes(run.errors), text(*errors), run.errors)
         self.assertEqual(run.status, status)
 
     def assert_prints(self, run, *lines, status=0, errors=()):

@@ -10,7 +10,7 @@ import time
 import unittest
 
 from example_tools import run_tool
-from small_provider import SmallProvider
+from small_provider import DropsExtension, SmallProvider
 from support import (
     BOB, NOWHERE, PATIENCE, ROOT, USER, ProgramTest, Provider, free_port, resource_id, wait_until, watchdog,
 )
@@ -215,7 +215,7 @@ class BehindPushTest(ProxiesTest):
         self.start(self.before_serve(self.provider().address))
         self.behind_push()
         tried = run_tool("try-provider.py", "--to", f"127.0.0.1:{self.push_port}")
-        self.assertEqual([line.split(":")[0] for line in tried.lines[:-1]], ["met"] * 8, tried.output.decode())
+        self.assertEqual([line.split(":")[0] for line in tried.lines[:-1]], ["met"] * 9 + ["push by"], tried.output.decode())
         self.assertEqual(tried.status, 0)
 
     def test_a_leaver_who_had_an_account_before(self):
@@ -229,6 +229,23 @@ class BehindPushTest(ProxiesTest):
         self.site.write_users("ann,5,,,,,active", "bob,6,,,,,left")
         self.assert_prints(self.push(), "user ann confirmed 5", "user bob confirmed 6")
         self.assertEqual([user["active"] for user in foreign.users.values()], [True, False])
+
+    def test_a_leaver_at_a_provider_that_drops_the_source_extension(self):
+        """By the line that try-provider.py prints, a joiner gets an account, and a leaver who had one before loses it."""
+        foreign = DropsExtension({"schemas": [USER], "userName": "Bob", "active": True})
+        self.start(self.before_serve(self.start(foreign).address))
+        self.behind_push()
+        to = f"127.0.0.1:{self.push_port}"
+        tried = run_tool("try-provider.py", "--to", to)
+        line = f"push by: scimlink push --users FILE --journal FILE --to {to} --provider-keeps versions"
+        self.assertIn(line, tried.lines, tried.output.decode())
+        self.site.write_users("ann,5,,,,,active", "bob,5,,,,,active")
+        confirmed = "user ann confirmed 5", "user bob confirmed 5"
+        self.assert_prints(self.site.push(to, "--provider-keeps", "versions"), *confirmed)
+        self.site.write_users("ann,5,,,,,active", "bob,6,,,,,left")
+        self.assert_prints(self.site.push(to, "--provider-keeps", "versions"), confirmed[0], "user bob confirmed 6")
+        held = {user["userName"].lower(): user["active"] for user in foreign.users.values()}
+        self.assertEqual((held["ann"], held["bob"]), (True, False))
 
     def test_an_expired_certificate(self):
         self.site.write_users("bob,1,,,,,active")
