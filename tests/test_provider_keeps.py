@@ -1,5 +1,6 @@
 """`push --provider-keeps versions`: a provider that drops the source extension, and shows a new version at each write."""
 import json
+import random
 
 from peers import NO_HITS, Peer, answer, asked, hits, user
 from small_provider import DropsExtension
@@ -27,6 +28,49 @@ class LosesAnswers(DropsExtension):
         return b"" if is_first else said
 
 
+class LosesAndDelays(DropsExtension):
+    """By chance it doesn't get a request, or gets it later, or its answer is lost, as long as it `is_troubled`."""
+
+    def __init__(self, seed):
+        super().__init__()
+        self.draw, self.late, self.is_troubled = random.Random(seed).random, [], True
+
+    def respond(self, lines, body):
+        self.late, waited = [], self.late
+        for request in waited:
+            if self.is_troubled and self.draw() < 0.9:
+                self.late.append(request)
+            else:
+                super().respond(*request)
+        fate = self.draw() if self.is_troubled else 1
+        if fate < 0.15:
+            self.late.append((lines, body))
+        said = super().respond(lines, body) if fate >= 0.25 else b""
+        return said if fate >= 0.4 else b""
+
+
+class DelaysAChange(DropsExtension):
+    """It gets the first replacement late: when it `arrives`."""
+
+    late = None
+
+    def respond(self, lines, body):
+        if self.late or not lines[0].startswith("PUT"):
+            return super().respond(lines, body)
+        self.late = lines, body
+        return b""
+
+    def arrives(self):
+        super().respond(*self.late)
+
+
+class HashesContents(DelaysAChange):
+    """A version comes back when the content comes back."""
+
+    def version(self, id):
+        return f'"{self.users[id]["active"]}"'
+
+
 class StaysActive(DropsExtension):
     """It leaves each account active."""
 
@@ -39,6 +83,17 @@ class WeakVersions(DropsExtension):
 
     def version(self, id):
         return f"W/{super().version(id)}"
+
+
+class AnswersInChunks(DropsExtension):
+    """Its answers come in chunks of a byte, behind an interim response."""
+
+    def respond(self, lines, body):
+        head, _, content = super().respond(lines, body).partition(b"\r\n\r\n")
+        fields = [line for line in head.split(b"\r\n") if not line.startswith(b"Content-Length")]
+        chunks = b"".join(b"1\r\n%c\r\n" % byte for byte in content)
+        framed = [*fields, b"Transfer-Encoding: chunked", b"", chunks + b"0\r\n\r\n"]
+        return b"HTTP/1.1 103 Early Hints\r\n\r\n" + b"\r\n".join(framed)
 
 
 class WritesInItsOwnWay(DropsExtension):
@@ -68,7 +123,7 @@ class ProviderKeepsTest(ProgramTest):
         self.assertEqual(shown, {"ann": True, "bob": False})
 
     def test_leavers_end_inactive(self):
-        for kind in DropsExtension, RefusesExtension, WeakVersions:
+        for kind in DropsExtension, RefusesExtension, WeakVersions, AnswersInChunks:
             with self.subTest(kind=kind.__name__), kind() as provider:
                 self.join_and_leave(provider)
             self.setUp()
@@ -99,6 +154,43 @@ class ProviderKeepsTest(ProgramTest):
                 ["GET", "GET", "POST", "GET", "PUT", "PUT", "GET", "PUT"],
             )
             self.assertEqual(len(provider.users), 1)
+
+    def test_requests_and_answers_that_are_lost_or_late(self):
+        """Whatever is confirmed is held when a push ends; and once nothing is lost, a push confirms all."""
+        for seed in range(30):
+            with self.subTest(seed=seed), LosesAndDelays(seed) as provider:
+                wanted, draw = {}, random.Random(seed)
+                for revision in range(1, 13):
+                    wanted[draw.choice(("ann", "bob", "cid"))] = revision, draw.choice(("active", "left"))
+                    self.push_and_look(provider, wanted)
+                provider.is_troubled = False
+                self.assertEqual(self.push_and_look(provider, wanted), len(wanted))
+                self.assertEqual(len(provider.users), len(wanted))
+            self.setUp()
+
+    def push_and_look(self, provider, wanted):
+        """A push of these revisions and states: how many are confirmed, which the provider has as they are wanted."""
+        self.site.write_users(*(f"{name},{revision},,,,,{state}" for name, (revision, state) in wanted.items()))
+        run = self.site.push(provider.address, *VERSIONS)
+        held = {user["userName"]: user["active"] for user in provider.users.values()}
+        confirmed = [line.split() for line in run.output.decode().splitlines() if " confirmed " in line]
+        for _, name, _, revision in confirmed:
+            self.assertEqual((int(revision), held[name]), (wanted[name][0], wanted[name][1] == "active"))
+        return len(confirmed)
+
+    def test_a_late_change_and_versions_that_come_back(self):
+        """A late change is refused, unless the version that it names has come back: then a leaver is active again. So such
+        a provider isn't of this kind."""
+        rows = "bob,1,,,,,left", "bob,2,,,,,active", "bob,3,,,,,left"
+        for kind, is_active in ((DelaysAChange, False), (HashesContents, True)):
+            with self.subTest(kind=kind.__name__), kind() as provider:
+                for revision, row in enumerate(rows, 1):
+                    self.site.write_users(row)
+                    self.pushes(provider, f"user bob confirmed {revision}")
+                self.assertFalse(provider.users["1"]["active"])
+                provider.arrives()
+                self.assertEqual(provider.users["1"]["active"], is_active)
+            self.setUp()
 
     def test_an_answer_that_shows_another_activity_confirms_nothing(self):
         self.site.write_users(BOB_LEFT)
