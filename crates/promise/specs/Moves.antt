@@ -104,7 +104,8 @@ module _ {J I O P Q : Type 0} (h : Journals J) (received : I → Option (List �
   PushDoes (hears e ∷ moves) (Some f) book last =
       (e ≡ f)
       × ((before : Connector J) × (after : Connector J)
-      × IsExchange received posted h (keeping_at base) e.0 e.1 before after × (before.book ≡ book) × PushDoes moves None after.book last)
+      × IsExchange received posted h (keeping_at base) e.0 e.1 before after × (before.book ≡ book)
+      × PushDoes moves None after.book last)
   PushDoes (serves c ∷ moves) waits book last = ⊥
 
 -- one connection, from these rows to those that the next one finds
