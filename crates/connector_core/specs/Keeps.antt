@@ -13,8 +13,7 @@ use Rattle.scim_resource.specs.declared.contents.Content.{Content}
 use Rattle.scim_message.specs.declared.messages.Request.{Request}
 use Rattle.scim_message.specs.declared.messages.Request.TheVariants.{Create, Retrieve, Search, Replace}
 use Rattle.scim_message.specs.declared.messages.Answer.{Answer}
-use Rattle.scim_message.specs.declared.messages.Answer.TheVariants.{Created, Found, Replaced, NotModified, Error}
-use Rattle.scim_message.specs.declared.messages.Answer.TheVariants as answers
+pub use Rattle.scim_message.specs.Messages.{answer_with, resources_of}
 use Rattle.comparing.specs.Aspects.{is_active, same_flag}
 use Rattle.connector_core.specs.History.{same_name}
 use Rattle.connector_core.specs.Book.{Book}
@@ -25,25 +24,6 @@ use Rattle.connector_core.specs.declared.learning.LearnFault.{LearnFault}
 use Rattle.connector_core.specs.declared.learning.LearnFault.TheVariants.{Unfit, Unversioned, NoSuchRecord}
 use Rattle.connector_core.specs.declared.keeps.Keeps.{Keeps}
 use Rattle.connector_core.specs.declared.keeps.Keeps.TheVariants.{Revisions, Versions}
-
--- ---- the resources of an answer
-
--- the answer with something else in place of each resource
-abbrev pub answer_with : (ShownRecord → ShownRecord) → Answer → Answer
-answer_with f (Created s) = Created (f s)
-answer_with f (Found s) = Found (f s)
-answer_with f (Replaced s) = Replaced (f s)
-answer_with f (answers.List list) = answers.List (record list { resources = map f list.resources })
-answer_with f (NotModified kind id version) = NotModified kind id version
-answer_with f (Error error) = Error error
-
-abbrev pub resources_of : Answer → List ShownRecord
-resources_of (Created s) = s ∷ []
-resources_of (Found s) = s ∷ []
-resources_of (Replaced s) = s ∷ []
-resources_of (answers.List list) = list.resources
-resources_of (NotModified kind id version) = []
-resources_of (Error error) = []
 
 -- ---- the provider
 

@@ -65,3 +65,7 @@ pub record IsShownOf (kind : Kind) (s : ShownRecord) : Type 0 where
 -- a row as an answer shows it
 abbrev pub shown : StoredRecord → ShownRecord
 shown s = record { id = id_text s.number; version = Some (version_tag s.version); content = s.content }
+
+-- the same resource under this entity tag
+abbrev pub shown_under : List ℕ → ShownRecord → ShownRecord
+shown_under tag s = record s { version = Some tag }

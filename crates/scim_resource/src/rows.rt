@@ -3,8 +3,8 @@ ghost use Rattle.std.specs.Prelude.{◌≡◌, ◌≤◌, IfOk, IfSome};
 ghost use Rattle.std.specs.Option.{option_copied};
 ghost use Rattle.std.specs.Str.{IsUtf8};
 ghost use Rattle.scim_key.specs.Identifiers.{IsId, id_text, last_number};
-ghost use Rattle.scim_version.specs.Tags.{IsEntityTag};
-ghost use Rattle.scim_resource.specs.Rows.{last_version, row_of, shown, IsShort, IsShown};
+ghost use Rattle.scim_version.specs.Tags.{IsEntityTag, version_tag};
+ghost use Rattle.scim_resource.specs.Rows.{last_version, row_of, shown, shown_under, IsShort, IsShown};
 
 use crate::contents::Content;
 use scim_key::ResourceId;
@@ -205,6 +205,19 @@ impl Shown {
         Ok(Shown {
             id: ResourceId::of_number(alloc, row.number)?,
             version: Some(EntityTag::of_counter(alloc, row.version)?),
+            content,
+        })
+    }
+
+    /// The same resource under the entity tag of this version, whatever tag it had.
+    pub fn under_version(self, alloc: Global, version: u64) -> Result<Shown, AllocError>
+        requires { version ≤ last_version }
+        ensures { IfOk result (λ s. s ≡ shown_under (version_tag version) self) }
+    {
+        let Shown { id, content, .. } = self;
+        Ok(Shown {
+            id,
+            version: Some(EntityTag::of_counter(alloc, version)?),
             content,
         })
     }
