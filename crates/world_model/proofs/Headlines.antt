@@ -136,7 +136,7 @@ headline_holds_among ours early late apart =
     headline_now (run_among empty early) (run_among empty (early ++ late)) (always_inv_among ours early (apart_early ours early late apart))
     (always_inv_among ours (early ++ late) apart) (always_onward_among early late).stories
 
-headline_of : {keeps : Keeps} (w v : World) → InvariantAt keeps all_names w → InvariantAt keeps all_names v → AllGoOn w.entries v.entries → Headline w v
+pub headline_of : {keeps : Keeps} (w v : World) → InvariantAt keeps all_names w → InvariantAt keeps all_names v → AllGoOn w.entries v.entries → Headline w v
 headline_of w v inv_w inv_v all =
     let among = headline_now w v inv_w inv_v all in
     record {

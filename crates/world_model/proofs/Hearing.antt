@@ -47,7 +47,7 @@ with_again r q (contents.Group g) = refl
 
 -- ---- resources of an answer
 
-shown_in_with : (f : ShownRecord → ShownRecord) (answer : Answer) → shown_in (answer_with f answer) ≡ map f (shown_in answer)
+pub shown_in_with : (f : ShownRecord → ShownRecord) (answer : Answer) → shown_in (answer_with f answer) ≡ map f (shown_in answer)
 shown_in_with f (Created s) = refl
 shown_in_with f (Found s) = refl
 shown_in_with f (Replaced s) = refl
@@ -102,7 +102,7 @@ standing es (Retrieve kind id m n) i x at = inr (ap (λ (content : Content). rec
 standing es (Search kind wanted start count) i x at = inr (ap (λ (content : Content). record x { content = content }) (with_again (Some no_revision) None x.content))
 standing es (Replace id c m n) i x at = inl (ap (λ (content : Content). record x { content = content }) (replace_shows _ es c m n i x at))
 
-forgot_truly : (es : List Entry) (request : Request) → RepliesTrulyAt Versions (step es request).entries request (forgot (step es request).answer)
+pub forgot_truly : (es : List Entry) (request : Request) → RepliesTrulyAt Versions (step es request).entries request (forgot (step es request).answer)
 forgot_truly es request i s at =
     let (x, at_x, same) = twice (filling request) (step es request).answer i s at in
     record {

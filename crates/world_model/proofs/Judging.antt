@@ -112,7 +112,7 @@ put_keeps book name known now q here same = put_wants book name now q ∙ elim (
   | inr e ↦ rw e refl
 ]
 
-learn_keeps : (keeps : Keeps) (book : Book) (request : Request) (answer : Answer) (q : RecordName) → wanted_row (after_learning book (learn_at keeps book request answer)) q ≡ wanted_row book q
+pub learn_keeps : (keeps : Keeps) (book : Book) (request : Request) (answer : Answer) (q : RecordName) → wanted_row (after_learning book (learn_at keeps book request answer)) q ≡ wanted_row book q
 learn_keeps keeps book request answer q = go (learn_at keeps book request answer) refl
   where
     go : (r : Result Learning LearnFault) → learn_at keeps book request answer ≡ r → wanted_row (after_learning book r) q ≡ wanted_row book q

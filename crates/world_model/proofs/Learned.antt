@@ -86,7 +86,7 @@ listed_shows total (x ∷ []) s is = elim (cases_Bool (total == 1)) [
 ]
 listed_shows total (x ∷ y ∷ more) s is = absurd (cc)
 
-refusal_shows_none : (b : Bool) (said : Finding) (fault : LearnFault) (s : ShownRecord) → (said ≡ Shows s → ⊥) → cond b (Ok said) (Err fault) ≡ Ok (Shows s) → ⊥
+pub refusal_shows_none : (b : Bool) (said : Finding) (fault : LearnFault) (s : ShownRecord) → (said ≡ Shows s → ⊥) → cond b (Ok said) (Err fault) ≡ Ok (Shows s) → ⊥
 refusal_shows_none true said fault s other is = other (cc)
 refusal_shows_none false said fault s other is = cc
 

@@ -54,3 +54,9 @@ pub mod Current
 pub mod Faring
 pub mod Resetting
 pub mod Starting
+pub mod UnversionedKeeping
+pub mod UnversionedLearning
+pub mod UnversionedInvariant
+pub mod Unversioned
+pub mod UnversionedExchange
+pub mod UnversionedSettling

@@ -100,7 +100,7 @@ module _ (history : History) (book : Book) (follows : Follows book history) wher
   search_asks_none (User row) content is = absurd (cc)
   search_asks_none (Group row) content is = absurd (cc)
 
-  its_content : (seen : Seen) (row : Row) (c content : Content) → request_content (request_for seen row c) ≡ Some content → c ≡ content
+  pub its_content : (seen : Seen) (row : Row) (c content : Content) → request_content (request_for seen row c) ≡ Some content → c ≡ content
   its_content Unknown row c content is = absurd (search_asks_none row content is)
   its_content Absent row c content is = cc
   its_content (At id tag revision) row c content is = cc

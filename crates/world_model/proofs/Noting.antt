@@ -326,7 +326,7 @@ module _ (es : List Entry) (book : Book) (name : RecordName) (known : Known) (wh
         (record { held = st.held; version = st.version; from = none_first st.held; up = st.up })
 
   -- ---- either way
-  shown_noted : (keeps : Keeps) (s : ShownRecord) {l : Lesson} → NotedAt keeps es name known → StandsAt keeps es s → LearnsShown keeps book name known s l → NotedAt keeps es name l.known
+  pub shown_noted : (keeps : Keeps) (s : ShownRecord) {l : Lesson} → NotedAt keeps es name known → StandsAt keeps es s → LearnsShown keeps book name known s l → NotedAt keeps es name l.known
   shown_noted Revisions s n fact learns = fact_noted n s fact learns
   shown_noted Versions s n stands learns = stands_noted n s stands learns
 
@@ -351,7 +351,7 @@ forgetting_id false known = refl
 
 -- a known id stays
 module _ {keeps : Keeps} (es : List Entry) (book : Book) (name : RecordName) (known : Known) (n : NotedAt keeps es name known) (id : List ℕ) (has : known.id ≡ Some id) where
-  shown_keeps_id : (s : ShownRecord) {l : Lesson} → NotedAt keeps es name l.known → LearnsShown keeps book name known s l → l.known.id ≡ Some id
+  pub shown_keeps_id : (s : ShownRecord) {l : Lesson} → NotedAt keeps es name l.known → LearnsShown keeps book name known s l → l.known.id ≡ Some id
   shown_keeps_id s now (sees sight fits) = sym (now.id sight.id refl) ∙ n.id id has
   shown_keeps_id s now (agrees tag wanted tagged) = sym (now.id s.id refl) ∙ n.id id has
   shown_keeps_id s now (differs sight d) = has

@@ -39,7 +39,7 @@ use Rattle.world_model.specs.Others.{Act, Ours, Theirs, acts, acts_at, run_among
 
 -- ---- lists
 
-stays : {X : Type 0} (xs : List X) → IsPrefixOf xs xs
+pub stays : {X : Type 0} (xs : List X) → IsPrefixOf xs xs
 stays xs = ([], sym (append-nil xs))
 
 further : {X : Type 0} (xs ys zs : List X) → IsPrefixOf xs ys → IsPrefixOf ys zs → IsPrefixOf xs zs
@@ -53,7 +53,7 @@ StaysConfirmed known o = (after : Known) × (o ≡ Some after) × (known.confirm
 abbrev NoneFalls : Book → Book → Type 0
 NoneFalls early late = (name : RecordName) (known : Known) → early name ≡ Some known → StaysConfirmed known (late name)
 
-none_falls : (book : Book) → NoneFalls book book
+pub none_falls : (book : Book) → NoneFalls book book
 none_falls book name known is = (known, is, reflexive_up_to known.confirmed)
 
 none_falls_further : (a b c : Book) → NoneFalls a b → NoneFalls b c → NoneFalls a c
@@ -210,7 +210,7 @@ always_onward early late = subst (Onward (run empty early)) (sym (run-append emp
 
 -- ---- with each kind of provider
 
-delivers_on_at : (keeps : Keeps) (w : World) (o : Option Message) → Onward w (delivers_at keeps w o)
+pub delivers_on_at : (keeps : Keeps) (w : World) (o : Option Message) → Onward w (delivers_at keeps w o)
 delivers_on_at keeps w None = here_still w
 delivers_on_at keeps w (Some (Asked request)) = record {
   rows = λ name. stays (rows_of w.history name);

@@ -84,7 +84,7 @@ sound_of w q = record {
 }
 
 -- a record with a known id has an entry
-id_entry : (es : List Entry) (name : RecordName) (id : List ℕ) → id_in es name ≡ Some id → Lacks es name → ⊥
+pub id_entry : (es : List Entry) (name : RecordName) (id : List ℕ) → id_in es name ≡ Some id → Lacks es name → ⊥
 id_entry es name id is none = go (entry_named name es) refl is
   where
     go : (o : Option Numbered) → entry_named name es ≡ o → option_map (λ n. id_text n.number) o ≡ Some id → ⊥

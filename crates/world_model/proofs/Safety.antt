@@ -68,7 +68,7 @@ module _ {keeps : Keeps} {ours : Names} (w : World) (inv : InvariantAt keeps our
         reached = version_reached name has.id has.tag known.confirmed its v;
       }
 
-  known_truly : (name : RecordName) (known : Known) → w.book name ≡ Some known → KnownTrulyAt keeps w.entries name known
+  pub known_truly : (name : RecordName) (known : Known) → w.book name ≡ Some known → KnownTrulyAt keeps w.entries name known
   known_truly name known in_book =
       let n = inv.noted name known in_book in
       record {
@@ -111,7 +111,7 @@ module _ {keeps : Keeps} {ours : Names} (w : World) (inv : InvariantAt keeps our
       let down : before reached.0 known.confirmed ≡ true = subst (λ (r : RevisionValue). r ≺ known.confirmed) equal below in
       absurd (cc))
 
-  inactive : HasLeftSince w.history name known.confirmed → is_inactive e.held ≡ true
+  pub inactive : HasLeftSince w.history name known.confirmed → is_inactive e.held ≡ true
   inactive left =
       let row = held_image.row in
       let (ids, same, _) = of_image (id_in w.entries) row e.held held_image.image in

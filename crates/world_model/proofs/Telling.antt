@@ -14,7 +14,7 @@ use Rattle.world_model.specs.World.{Message, Asked, Answered}
 use Rattle.world_model.specs.Invariant.{AskedTrulyAt, StandsAt, ToldTruly, ToldTrulyAt, AllTold, AllToldAt}
 use Rattle.world_model.proofs.Growing.{Grows, image_grows, version_grows, fact_grows}
 
-stands_grow : (keeps : Keeps) (es fs : List Entry) (s : ShownRecord) → AllGoOn es fs → StandsAt keeps es s → StandsAt keeps fs s
+pub stands_grow : (keeps : Keeps) (es fs : List Entry) (s : ShownRecord) → AllGoOn es fs → StandsAt keeps es s → StandsAt keeps fs s
 stands_grow Revisions es fs s all fact = fact_grows es fs s all fact
 stands_grow Versions es fs s all stands = record { true_one = stands.true_one; fact = fact_grows es fs stands.true_one all stands.fact; stands = stands.stands }
 

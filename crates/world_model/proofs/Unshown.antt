@@ -44,14 +44,14 @@ use Rattle.world_model.proofs.Settling.{IsReady, has_image, Phase, next_phase, A
 -- ---- versions that are left
 
 -- each story, and one that begins, may have this many versions more
-record Space (left : ℕ) (es : List Entry) : Type 0 where
-  first : left < last_version
-  each : (i : ℕ) (e : Entry) → IsAt es i e → length (story e) + left < last_version
+pub record Space (left : ℕ) (es : List Entry) : Type 0 where
+  pub first : left < last_version
+  pub each : (i : ℕ) (e : Entry) → IsAt es i e → length (story e) + left < last_version
 
-space_of : (m n : ℕ) (es : List Entry) → n ≤ m → Space m es → Space n es
+pub space_of : (m n : ℕ) (es : List Entry) → n ≤ m → Space m es → Space n es
 space_of m n es up s = record { first = omega (arith, up, s.first); each = λ i e at. omega (arith, up, s.each i e at) }
 
-less_space : (n : ℕ) (es : List Entry) → Space (suc n) es → Space n es
+pub less_space : (n : ℕ) (es : List Entry) → Space (suc n) es → Space n es
 less_space n es s = space_of (suc n) n es (omega arith) s
 
 writes_space : (n : ℕ) {es : List Entry} {request : Request} {fs : List Entry} → Writes es request fs → Space (suc n) es → Space n fs
@@ -73,7 +73,7 @@ writes_space n (replaced {es = es} place d content m k there named below holds) 
       ];
 }
 
-step_space : (n : ℕ) (es : List Entry) (request : Request) → Space (suc n) es → Space n (step es request).entries
+pub step_space : (n : ℕ) (es : List Entry) (request : Request) → Space (suc n) es → Space n (step es request).entries
 step_space n es request s = writes_space n (steps_write es request) s
 
 sends_space : (n : ℕ) (w : World) (o : Option Ask) → Space n w.entries → Space n (sends w o).entries
@@ -87,7 +87,7 @@ delivers_space n w None s = less_space n w.entries s
 delivers_space n w (Some (Asked request)) s = step_space n w.entries request s
 delivers_space n w (Some (Answered request answer)) s = less_space n w.entries s
 
-event_space : (n : ℕ) (w : World) (event : Event) → Space (suc n) w.entries → Space n (happens_at Versions w event).entries
+pub event_space : (n : ℕ) (w : World) (event : Event) → Space (suc n) w.entries → Space n (happens_at Versions w event).entries
 event_space n w (Changes row) s = less_space n w.entries s
 event_space n w (Sends name) s = sends_space n w (asking w.book name) (less_space n w.entries s)
 event_space n w (Delivers number) s = delivers_space n w (message_at w.messages number) s
@@ -98,10 +98,10 @@ event_space n w (Doubts name) s = less_space n w.entries s
 
 -- ---- the source
 
-record Source (history : History) : Type 0 where
-  lawful : AllLawful history
-  counted : Counted history
-  members : MembersAreUsers history
+pub record Source (history : History) : Type 0 where
+  pub lawful : AllLawful history
+  pub counted : Counted history
+  pub members : MembersAreUsers history
 
 changes_source : (w : World) (row : Row) (v : Result Verdict ChangeFault) → IsRow row → Follows w.book w.history → judged w row ≡ v → Source w.history → Source (changes w row v).history
 changes_source w row (Ok verdicts.New) law follows is s = record {
@@ -124,7 +124,7 @@ delivers_source w None s = s
 delivers_source w (Some (Asked request)) s = s
 delivers_source w (Some (Answered request answer)) s = s
 
-event_source : (w : World) (event : Event) → IsLawful event → Follows w.book w.history → Source w.history → Source (happens_at Versions w event).history
+pub event_source : (w : World) (event : Event) → IsLawful event → Follows w.book w.history → Source w.history → Source (happens_at Versions w event).history
 event_source w (Changes row) law follows s = changes_source w row (judged w row) law follows refl s
 event_source w (Sends name) law follows s = sends_source w (asking w.book name) s
 event_source w (Delivers number) law follows s = delivers_source w (message_at w.messages number) s

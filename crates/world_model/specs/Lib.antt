@@ -10,3 +10,4 @@ pub mod Several
 pub mod Room
 pub mod Healing
 pub mod Resetting
+pub mod Unversioned

@@ -57,6 +57,13 @@ ghost use Rattle.world_model.specs.Several.{
   SettlesForEach,
 };
 ghost use Rattle.world_model.specs.Untroubled.{NeverRefused};
+ghost use Rattle.world_model.specs.Unversioned.{
+  AlwaysOnwardWithoutVersions,
+  AlwaysSafeWithoutVersions,
+  HeadlineHoldsWithoutVersions,
+  JudgesBySourceWithoutVersions,
+  SettlesWithoutVersions,
+};
 ghost use Rattle.world_model.specs.World.{empty};
 
 /// After every run, the connector judges each row as the history of the source alone does.
@@ -208,6 +215,26 @@ pub fn holds_with_each_provider()
     ensures kept { EventsKeepItAt }
     ensures among { HeadlineHoldsAmongAt }
     ensures revisions { WithRevisions }
+{}
+
+/// Some providers drop the source extension, show no versions and obey no condition. The headline holds there too, word
+/// for word, if no request that writes a record is delivered after a later one that writes the same record was sent
+/// (`headline`). Then the world is safe, too: what was seen is the record's resource, and some version of it has the
+/// noted revision or a later one (`safe`). In whatever order requests arrive, nothing of ours is lost or changed, no
+/// confirmed revision falls (`onward`), and the connector judges as before (`judges`).
+pub fn holds_without_versions()
+    ensures headline { HeadlineHoldsWithoutVersions }
+    ensures safe { AlwaysSafeWithoutVersions }
+    ensures onward { AlwaysOnwardWithoutVersions }
+    ensures judges { JudgesBySourceWithoutVersions }
+{}
+
+/// At such a provider, too, at most three exchanges for each record settle all records, from every world that a run
+/// reaches in which no request that writes a record is delivered after a later one of the same record was sent, if
+/// each row that is offered is within the limits of the source. The events and the exchanges must be fewer than the
+/// versions that a resource may have.
+pub fn settles_without_versions()
+    ensures { SettlesWithoutVersions }
 {}
 
 /// A provider that never gets a revision gives the same answers as one that gets revisions and shows none, and

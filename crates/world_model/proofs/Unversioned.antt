@@ -1,0 +1,123 @@
+-- The laws at a provider without versions.
+use Rattle.std.proofs.Common.{◌≡◌, ℕ, List, [], ◌∷◌, ◌++◌, Option, Some, None, refl, sym, ◌∙◌, subst}
+use Rattle.scim_key.specs.declared.records.RecordName.{RecordName}
+use Rattle.scim_message.specs.Messages.{unconditional}
+use Rattle.provider_core.specs.Stories.{Entry, step}
+use Rattle.provider_core.proofs.StoryLaws.{stories_only_grow}
+use Rattle.connector_core.specs.History.{rows_of}
+use Rattle.connector_core.specs.declared.keeps.Keeps.TheVariants.{Versions}
+use Rattle.connector_core.specs.declared.knowledge.Known.{Known}
+use Rattle.connector_core.specs.declared.knowledge.Seen.{Seen}
+use Rattle.connector_core.specs.declared.knowledge.Seen.TheVariants.{Unknown, Absent, At}
+use Rattle.world_model.specs.World.{World, Message, Asked, Answered, Event, Changes, Sends, Delivers, Cuts, Restarts_provider, Restarts_connector, Doubts, message_at, empty}
+use Rattle.world_model.specs.Safe.{Onward}
+use Rattle.world_model.specs.Providers.{SeenTrulyAt}
+use Rattle.world_model.specs.Invariant.{Follows}
+use Rattle.world_model.specs.Unversioned.{KeepsOrder, KnownTrulyWithoutVersions, SafeWithoutVersions, SeenTrulyWithoutVersions, delivers_without_versions, happens_without_versions, run_without_versions, taken_for, AlwaysOnwardWithoutVersions, AlwaysSafeWithoutVersions, HeadlineHoldsWithoutVersions, JudgesBySourceWithoutVersions}
+use Rattle.world_model.proofs.Headlines.{headline_of}
+use Rattle.world_model.proofs.Judging.{event_follows_at, judged_by_source, learn_keeps}
+use Rattle.world_model.proofs.Onwards.{and_on, delivers_on_at, event_on_at, here_still, none_falls, stays}
+use Rattle.world_model.proofs.Safety.{inactive, known_truly}
+use Rattle.world_model.proofs.UnversionedInvariant.{InvariantWithoutVersions, always_without_versions, follows_history, tagged, tagged_known}
+use Rattle.world_model.proofs.UnversionedLearning.{retagged, under_tag}
+
+-- ---- in whatever order requests arrive
+
+delivers_on : (w : World) (o : Option Message) → Onward w (delivers_without_versions w o)
+delivers_on w None = here_still w
+delivers_on w (Some (Asked request)) =
+    let after = step w.entries (unconditional request) in
+    record {
+      rows = λ name. stays (rows_of w.history name);
+      stories = stories_only_grow w.entries (unconditional request);
+      messages = (Answered request (taken_for after.answer) ∷ [], refl);
+      confirmed = none_falls w.book;
+    }
+delivers_on w (Some (Answered request answer)) = delivers_on_at Versions w (Some (Answered request answer))
+
+event_on : (w : World) (event : Event) → Onward w (happens_without_versions w event)
+event_on w (Changes row) = event_on_at Versions w (Changes row)
+event_on w (Sends name) = event_on_at Versions w (Sends name)
+event_on w (Delivers number) = delivers_on w (message_at w.messages number)
+event_on w (Cuts number length) = event_on_at Versions w (Cuts number length)
+event_on w Restarts_provider = event_on_at Versions w Restarts_provider
+event_on w Restarts_connector = event_on_at Versions w Restarts_connector
+event_on w (Doubts name) = event_on_at Versions w (Doubts name)
+
+run_on : (w : World) (events : List Event) → Onward w (run_without_versions w events)
+run_on w [] = here_still w
+run_on w (event ∷ events) = and_on w (happens_without_versions w event) (run_without_versions (happens_without_versions w event) events) (event_on w event) (run_on (happens_without_versions w event) events)
+
+run-append : (w : World) (early late : List Event) → run_without_versions w (early ++ late) ≡ run_without_versions (run_without_versions w early) late
+run-append w [] late = refl
+run-append w (event ∷ early) late = run-append (happens_without_versions w event) early late
+
+pub always_onward : AlwaysOnwardWithoutVersions
+always_onward early late = subst (Onward (run_without_versions empty early)) (sym (run-append empty early late)) (run_on (run_without_versions empty early) late)
+
+delivers_follows : (w : World) (o : Option Message) → Follows w.book w.history → Follows (delivers_without_versions w o).book (delivers_without_versions w o).history
+delivers_follows w None follows = follows
+delivers_follows w (Some (Asked request)) follows = follows
+delivers_follows w (Some (Answered request answer)) follows = λ q. learn_keeps Versions w.book request answer q ∙ follows q
+
+event_follows : (w : World) (event : Event) → Follows w.book w.history → Follows (happens_without_versions w event).book (happens_without_versions w event).history
+event_follows w (Changes row) follows = event_follows_at Versions w (Changes row) follows
+event_follows w (Sends name) follows = event_follows_at Versions w (Sends name) follows
+event_follows w (Delivers number) follows = delivers_follows w (message_at w.messages number) follows
+event_follows w (Cuts number length) follows = follows
+event_follows w Restarts_provider follows = follows
+event_follows w Restarts_connector follows = event_follows_at Versions w Restarts_connector follows
+event_follows w (Doubts name) follows = event_follows_at Versions w (Doubts name) follows
+
+run_follows : (w : World) (events : List Event) → Follows w.book w.history → Follows (run_without_versions w events).book (run_without_versions w events).history
+run_follows w [] follows = follows
+run_follows w (event ∷ events) follows = run_follows (happens_without_versions w event) events (event_follows w event follows)
+
+pub judges_by_source : JudgesBySourceWithoutVersions
+judges_by_source events row = judged_by_source (run_without_versions empty events) row (run_follows empty events (λ name. refl))
+
+-- ---- in order
+
+seen_truly : (es : List Entry) (name : RecordName) (tag : List ℕ) (seen : Seen) → SeenTrulyAt Versions es name (under_tag tag seen) → SeenTrulyWithoutVersions es name seen
+seen_truly es name tag Unknown truly = tt
+seen_truly es name tag Absent truly = tt
+seen_truly es name tag (At id other revision) truly = (tag, truly)
+
+module _ (w : World) (i : InvariantWithoutVersions w) where
+  known_without_versions : (name : RecordName) (known : Known) → w.book name ≡ Some known → KnownTrulyWithoutVersions w.entries name known
+  known_without_versions name known in_book =
+      let truly = known_truly (tagged i.tags w) i.inv name (retagged (i.tags name) known) (tagged_known w i name known in_book) in
+      record { id = truly.id; confirmed = truly.confirmed; within = truly.within; seen = seen_truly w.entries name (i.tags name) known.seen truly.seen }
+
+  safe_now : SafeWithoutVersions w
+  safe_now = record {
+    rows_rise = i.inv.rising;
+    one_each = i.inv.kept.whole.distinct;
+    stories_rise = λ e has. i.inv.kept.rises has.0 e has.1 refl;
+    images = λ e content has in_story. i.inv.kept.imaged has.0 in_story.0 e content has.1 refl in_story.1;
+    wanted = follows_history w i;
+    known = known_without_versions;
+    leavers = λ name known e of_kind in_book of_record left.
+        inactive (tagged i.tags w) i.inv name (retagged (i.tags name) known) (tagged_known w i name known in_book) e of_record left;
+  }
+
+pub always_safe : AlwaysSafeWithoutVersions
+always_safe events order = safe_now (run_without_versions empty events) (always_without_versions events order)
+
+order_early : (w : World) (early late : List Event) → KeepsOrder w (early ++ late) → KeepsOrder w early
+order_early w [] late order = tt
+order_early w (event ∷ early) late order = (order.0, order_early (happens_without_versions w event) early late order.1)
+
+pub headline_holds : HeadlineHoldsWithoutVersions
+headline_holds early late order =
+    let w = run_without_versions empty early in
+    let v = run_without_versions empty (early ++ late) in
+    let i = always_without_versions early (order_early empty early late order) in
+    let j = always_without_versions (early ++ late) order in
+    let headline = headline_of (tagged i.tags w) (tagged j.tags v) i.inv j.inv (always_onward early late).stories in
+    record {
+      one_per_name = headline.one_per_name;
+      its_image = headline.its_image;
+      never_back = headline.never_back;
+      reached = λ name known in_book some. headline.reached name (retagged (i.tags name) known) (tagged_known w i name known in_book) some;
+    }
