@@ -14,7 +14,8 @@ use Rattle.provisioning.specs.DryRuns.{IsOver}
 use Rattle.provisioning.specs.Offering.{OffersAll}
 use Rattle.provisioning.specs.declared.faults.RunFault.{RunFault}
 use Rattle.provisioning.specs.declared.sources.Sources.{Sources}
-use Rattle.provisioning.specs.Services.{Service}
+use Rattle.provisioning.specs.Services.{Service, service_at}
+use Rattle.provisioning.specs.declared.services.ProviderKeeps.{ProviderKeeps}
 use Rattle.checking.specs.Checks.{ChecksAloud}
 use Rattle.checking.specs.Counting.{are_in_step}
 use Rattle.checking.specs.declared.counts.Counts.{Counts}
@@ -59,19 +60,20 @@ module _ {I O : Type 0} (remaining : I → Option (List ℕ)) (contents : O → 
   -- that the arguments name, as one that keeps what they say, with as many streams as they say
   pub record IsCheckedFrom {J L M : Type 0} (g : Journals J) (h : Journals M) (finds : EntryMap → Type 0)
       (is_closed : J → L → Type 0) (found : Found) (status : Status) : Type 0 where
-    pub service : Service
+    pub base : List ℕ
+    pub keeps : ProviderKeeps
     pub streams : ℕ
     pub copy : State M
     pub offered : State M
     pub taken : Bool
     pub last : Option Error
     pub service_is : wanted_service (first_value found (codes "base")) (first_value found (codes "path"))
-        ≡ Ok service.base
-    pub keeps : wanted_keeps (first_value found (codes "provider-keeps")) ≡ Ok service.keeps
+        ≡ Ok base
+    pub keeps_is : wanted_keeps (first_value found (codes "provider-keeps")) ≡ Ok keeps
     pub streams_are : GivesStreams (first_value found (codes "streams")) (one_text found (codes "streams")) (Ok streams)
     pub copied : IsCopyOf g finds is_closed copy.book
     pub offers : OffersFiles h found copy offered taken
-    pub ends : EndsChecking service offered.book taken last (Ok status)
+    pub ends : EndsChecking (service_at keeps base) offered.book taken last (Ok status)
 
   -- from the journal that was named
   abbrev pub IsCheckedAt : {J L M H : Type 0} → Journals J → Journals M → (finds : H → EntryMap → Type 0)

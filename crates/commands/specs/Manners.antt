@@ -8,11 +8,11 @@ use Rattle.commands.specs.Layouts.{is_snapshot}
 use Rattle.commands.specs.Simulating.{is_set}
 use Rattle.commands.specs.Words.{GivesCount, IsNumber, number_in}
 use Rattle.commands.specs.declared.manners.Manner.{Manner}
-use Rattle.commands.specs.declared.manners.TheConstants.{LONGEST_STREAK, MOST_LEAVERS}
+use Rattle.commands.specs.declared.manners.TheConstants.{LONGEST_STREAK, MOST_LEAVERS, MOST_SETTLE_SECONDS}
 use Rattle.commands.specs.declared.status.CommandFault.{CommandFault}
 use Rattle.commands.specs.declared.status.CommandFault.TheVariants as fault
-use Rattle.connector_core.specs.declared.keeps.Keeps.{Keeps}
-use Rattle.connector_core.specs.declared.keeps.Keeps.TheVariants.{Revisions, Versions}
+use Rattle.provisioning.specs.declared.services.ProviderKeeps.{ProviderKeeps}
+use Rattle.provisioning.specs.declared.services.ProviderKeeps.TheVariants.{Revisions, Versions, Nothing}
 
 -- the text spells this number, which is within the limit
 abbrev pub IsUpTo : (limit : ℕ) → Option (List ℕ) → ℕ → Type 0
@@ -34,22 +34,32 @@ abbrev pub GivesStreams : (value text : Option (List ℕ)) → Result ℕ Comman
 GivesStreams None text result = result ≡ Ok 1
 GivesStreams (Some value) text result = GivesCount MOST_STREAMS fault.Streams text result
 
--- ten if `--give-up-after` isn't there; else the number that its text spells, within the limit; or it spells none
+-- this number if the option isn't there; else the number that its text spells, within the limit; or it spells none
+abbrev pub GivesUpTo : (number limit : ℕ) → (wrong : CommandFault) → (value text : Option (List ℕ))
+    → Result ℕ CommandFault → Type 0
+GivesUpTo number limit wrong None text result = result ≡ Ok number
+GivesUpTo number limit wrong (Some value) text (Ok given) = IsUpTo limit text given
+GivesUpTo number limit wrong (Some value) text (Err why) =
+    (why ≡ wrong) × ((given : ℕ) → IsUpTo limit text given → ⊥)
+
+-- ten if `--give-up-after` isn't there
 abbrev pub GivesGiveUp : (value text : Option (List ℕ)) → Result ℕ CommandFault → Type 0
-GivesGiveUp None text result = result ≡ Ok 10
-GivesGiveUp (Some value) text (Ok limit) = IsUpTo LONGEST_STREAK text limit
-GivesGiveUp (Some value) text (Err why) =
-    (why ≡ fault.GiveUpAfter) × ((limit : ℕ) → IsUpTo LONGEST_STREAK text limit → ⊥)
+GivesGiveUp value text result = GivesUpTo 10 LONGEST_STREAK fault.GiveUpAfter value text result
+
+-- 60 seconds if `--settle-time` isn't there
+abbrev pub GivesSettleTime : (value text : Option (List ℕ)) → Result ℕ CommandFault → Type 0
+GivesSettleTime value text result = GivesUpTo 60 MOST_SETTLE_SECONDS fault.SettleTime value text result
 
 -- what the provider keeps, by its name
-abbrev pub named_keeps : List ℕ → Result Keeps CommandFault
+abbrev pub named_keeps : List ℕ → Result ProviderKeeps CommandFault
 named_keeps text =
     if bytes_eq text (codes "revisions") then Ok Revisions
     else if bytes_eq text (codes "versions") then Ok Versions
+    else if bytes_eq text (codes "nothing") then Ok Nothing
     else Err fault.ProviderKeeps
 
 -- revisions, if `--provider-keeps` isn't there
-abbrev pub wanted_keeps : (value : Option (List ℕ)) → Result Keeps CommandFault
+abbrev pub wanted_keeps : (value : Option (List ℕ)) → Result ProviderKeeps CommandFault
 wanted_keeps None = Ok Revisions
 wanted_keeps (Some text) = named_keeps text
 
@@ -66,6 +76,8 @@ pub record IsManner (found : Found) (manner : Manner) : Type 0 where
   pub give_up : GivesGiveUp (first_value found (codes "give-up-after")) (one_text found (codes "give-up-after"))
       (Ok manner.delivery.pace.give_up_after)
   pub keeps : wanted_keeps (first_value found (codes "provider-keeps")) ≡ Ok manner.delivery.keeps
+  pub settles : GivesSettleTime (first_value found (codes "settle-time")) (one_text found (codes "settle-time"))
+      (Ok manner.delivery.settle_seconds)
 
 -- that; or one of the numbers isn't within its limits, or what the provider keeps has another name
 abbrev pub GivesManner : Found → Result Manner CommandFault → Type 0
@@ -75,4 +87,5 @@ GivesManner found (Err why) =
     (Err why)
     ⊎ (GivesStreams (first_value found (codes "streams")) (one_text found (codes "streams")) (Err why)
     ⊎ (GivesGiveUp (first_value found (codes "give-up-after")) (one_text found (codes "give-up-after")) (Err why)
-    ⊎ (wanted_keeps (first_value found (codes "provider-keeps")) ≡ Err why)))
+    ⊎ ((wanted_keeps (first_value found (codes "provider-keeps")) ≡ Err why)
+    ⊎ GivesSettleTime (first_value found (codes "settle-time")) (one_text found (codes "settle-time")) (Err why))))

@@ -31,7 +31,7 @@ use Rattle.provisioning.specs.declared.faults.RunFault.{RunFault}
 use Rattle.provisioning.specs.declared.paces.Pace.{Pace}
 use Rattle.provisioning.specs.declared.sources.Sources.{Sources}
 use Rattle.provisioning.specs.declared.sources.UnreadFile.{UnreadFile}
-use Rattle.provisioning.specs.Services.{Service}
+use Rattle.provisioning.specs.Services.{Service, service_at}
 use Rattle.commands.specs.Addresses.{text_in}
 use Rattle.commands.specs.Causes.{concluded, source_part}
 use Rattle.commands.specs.Layouts.{GivesLayouts}
@@ -160,7 +160,7 @@ RunsOver {J} {L} g finds is_closed runs ended =
 
 -- the service of a job, and what its provider keeps
 abbrev pub service_of : Job → Delivery → Service
-service_of job delivery = record { base = job.service; keeps = delivery.keeps }
+service_of job delivery = service_at delivery.keeps job.service
 
 module _ {I O J : Type 0} (remaining : I → Option (List ℕ)) (contents : O → Option (List ℕ)) (g : Journals J) where
   -- the records of these sources were carried at this pace, and reported in this way

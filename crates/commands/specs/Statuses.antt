@@ -72,6 +72,7 @@ fault_status fault.LongestSearch = Usage
 fault_status fault.MostLeavers = Usage
 fault_status fault.Streams = Usage
 fault_status fault.GiveUpAfter = Usage
+fault_status fault.SettleTime = Usage
 fault_status fault.Column = Usage
 fault_status fault.Separator = Usage
 fault_status fault.ProviderKeeps = Usage

@@ -50,10 +50,7 @@ fn check_named<'a, R: Runtime + Net + AllocGlobal, J: EntryStorage>(
     let (to, streams) = (to(words)?, streams(words)?);
     let at = service(rt.alloc(), words)?;
     let keeps = keeps(words)?;
-    let service = ServiceProvider {
-        service: &at,
-        keeps,
-    };
+    let service = keeps.at(&at);
     let mut connector = copy_of(rt.alloc(), storage)?;
     let are_taken = offer_files(rt, words, &mut connector)?;
     let mut out = standard_output(rt)?;

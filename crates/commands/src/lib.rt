@@ -18,6 +18,7 @@ mod pushing;
 mod resetting;
 mod scopes;
 mod serving;
+mod settling;
 mod showing;
 pub mod simulating;
 mod simulating_among;

@@ -2,15 +2,14 @@
 ghost use Rattle.std.specs.Prelude.{◌≡◌, codes};
 ghost use Rattle.clap.specs.Matches.{first_value, found_of, one_text};
 ghost use Rattle.commands.specs.Layouts.{is_snapshot};
-ghost use Rattle.commands.specs.Manners.{GivesGiveUp, GivesManner, GivesMost, GivesStreams, named_keeps, wanted_keeps};
+ghost use Rattle.commands.specs.Manners.{GivesGiveUp, GivesManner, GivesMost, GivesSettleTime, GivesStreams, GivesUpTo, named_keeps, wanted_keeps};
 ghost use Rattle.commands.specs.Simulating.{is_set};
 
 use crate::layouts::is_snapshot;
 use crate::status::CommandFault;
 use crate::words::counted;
 use clap::ArgMatches;
-use connector_core::Keeps;
-use provisioning::{MOST_STREAMS, Pace};
+use provisioning::{MOST_STREAMS, Pace, ProviderKeeps};
 
 /// The most users that `--most-leavers` may allow.
 pub const MOST_LEAVERS: u32 = 1_000_000;
@@ -20,6 +19,12 @@ pub const LONGEST_STREAK: u32 = 1_000_000;
 
 /// After how many records in a row that met the same obstacle a push gives up, unless the arguments say otherwise.
 const GIVE_UP_AFTER: u32 = 10;
+
+/// The most seconds that `--settle-time` may name: an hour.
+pub const MOST_SETTLE_SECONDS: u32 = 3_600;
+
+/// For how many seconds a request may be under way, unless the arguments say otherwise.
+const SETTLE_SECONDS: u32 = 60;
 
 /// How a push is carried out.
 #[derive(Clone, Copy)]
@@ -42,7 +47,9 @@ pub struct Delivery {
     /// How many records are pushed at once, in which order, and when the run gives up.
     pub pace: Pace,
     /// What the provider keeps of what it is sent.
-    pub keeps: Keeps,
+    pub keeps: ProviderKeeps,
+    /// For how many seconds a request may be under way that an earlier run sent.
+    pub settle_seconds: u32,
 }
 
 impl Manner {
@@ -62,6 +69,7 @@ impl Manner {
                     give_up_after: give_up_after(words)?,
                 },
                 keeps: keeps(words)?,
+                settle_seconds: settle_seconds(words)?,
             },
         })
     }
@@ -124,33 +132,67 @@ fn give_up_after(words: &ArgMatches<'_>) -> Result<u32, CommandFault>
     ensures { GivesGiveUp (first_value (found_of words.now) (codes "give-up-after"))
         (one_text (found_of words.now) (codes "give-up-after")) result }
 {
-    match (
-        words.get_str("give-up-after"),
-        words.get_one("give-up-after"),
-    ) {
-        (None, _) => Ok(GIVE_UP_AFTER),
-        (Some(_), Some(limit)) if limit <= LONGEST_STREAK => Ok(limit),
-        _ => Err(CommandFault::GiveUpAfter),
+    let (number, limit) = (GIVE_UP_AFTER, LONGEST_STREAK);
+    up_to(
+        words,
+        "give-up-after",
+        number,
+        limit,
+        CommandFault::GiveUpAfter,
+    )
+}
+
+/// For how many seconds a request may be under way that an earlier run sent.
+fn settle_seconds(words: &ArgMatches<'_>) -> Result<u32, CommandFault>
+    ensures { GivesSettleTime (first_value (found_of words.now) (codes "settle-time"))
+        (one_text (found_of words.now) (codes "settle-time")) result }
+{
+    let (number, limit) = (SETTLE_SECONDS, MOST_SETTLE_SECONDS);
+    up_to(
+        words,
+        "settle-time",
+        number,
+        limit,
+        CommandFault::SettleTime,
+    )
+}
+
+/// This number, or the one of this argument, which is at most the limit; or what is wrong with the arguments.
+fn up_to(
+    words: &ArgMatches<'_>,
+    name: &str,
+    number: u32,
+    limit: u32,
+    wrong: CommandFault,
+) -> Result<u32, CommandFault>
+    ensures { GivesUpTo number limit wrong (first_value (found_of words.now) name.now)
+        (one_text (found_of words.now) name.now) result }
+{
+    match (words.get_str(name), words.get_one(name)) {
+        (None, _) => Ok(number),
+        (Some(_), Some(given)) if given <= limit => Ok(given),
+        _ => Err(wrong),
     }
 }
 
 /// What the provider keeps of what it is sent: revisions, unless the arguments say otherwise.
-pub(crate) fn keeps(words: &ArgMatches<'_>) -> Result<Keeps, CommandFault>
+pub(crate) fn keeps(words: &ArgMatches<'_>) -> Result<ProviderKeeps, CommandFault>
     ensures { result ≡ wanted_keeps (first_value (found_of words.now) (codes "provider-keeps")) }
 {
     match words.get_str("provider-keeps") {
-        None => Ok(Keeps::Revisions),
+        None => Ok(ProviderKeeps::Revisions),
         Some(text) => named_keeps(text),
     }
 }
 
 /// What a provider keeps, by its name.
-fn named_keeps(text: &str) -> Result<Keeps, CommandFault>
+fn named_keeps(text: &str) -> Result<ProviderKeeps, CommandFault>
     ensures { result ≡ named_keeps text.now }
 {
     match text {
-        "revisions" => Ok(Keeps::Revisions),
-        "versions" => Ok(Keeps::Versions),
+        "revisions" => Ok(ProviderKeeps::Revisions),
+        "versions" => Ok(ProviderKeeps::Versions),
+        "nothing" => Ok(ProviderKeeps::Nothing),
         _ => Err(CommandFault::ProviderKeeps),
     }
 }

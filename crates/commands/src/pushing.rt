@@ -11,6 +11,7 @@ use crate::limiting::approved;
 use crate::manners::{Delivery, Manner};
 use crate::output::{NotedWriter, standard_output};
 use crate::planning::plan_over;
+use crate::settling::settle;
 use crate::status::{CommandFault, Status};
 use crate::words::to;
 use checking::recheck;
@@ -96,7 +97,8 @@ pub fn push_over<'a, R: Runtime + Net + AllocGlobal, J: EntryStorage>(
     ended
 }
 
-/// Compares what is confirmed, if that is wanted, and carries the records of the files.
+/// Waits if requests of an earlier run may be under way, compares what is confirmed, if that is wanted, and carries the
+/// records of the files.
 fn push_checked<'a, R: Runtime + Net + AllocGlobal, J: Journal>(
     rt: &'a R,
     connector: &mut Connector<J>,
@@ -109,6 +111,7 @@ fn push_checked<'a, R: Runtime + Net + AllocGlobal, J: Journal>(
         ⟦<TimedHandle<'a, R::Stream, R> as Write>⟧.contents J.Journal delivery job.now most
         connector.old connector.new result }
 {
+    settle(rt, connector, delivery);
     let service = service_of(job, delivery);
     match begun(rt, connector, &service, to, delivery) {
         Ok(rechecked) => push_approved(rt, connector, job, to, delivery, most, rechecked),
@@ -120,10 +123,7 @@ fn push_checked<'a, R: Runtime + Net + AllocGlobal, J: Journal>(
 fn service_of<'a>(job: &'a Job<'_>, delivery: Delivery) -> ServiceProvider<'a>
     ensures { result ≡ service_of job.now delivery }
 {
-    ServiceProvider {
-        service: &job.service,
-        keeps: delivery.keeps,
-    }
+    delivery.keeps.at(&job.service)
 }
 
 /// Doubts what differs from what is confirmed, if that is wanted. Returns how many users would be switched off by that.

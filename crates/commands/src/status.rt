@@ -6,7 +6,7 @@ ghost use Rattle.commands.specs.Statuses.{fault_status, file_fault, journal_faul
 ghost use Rattle.commands.specs.declared.status.CommandFault.TheVariants.{Memory, Output, Unopened};
 
 use crate::looping::LoopFault;
-use crate::manners::{LONGEST_STREAK, MOST_LEAVERS};
+use crate::manners::{LONGEST_STREAK, MOST_LEAVERS, MOST_SETTLE_SECONDS};
 use crate::simulating::EventsFault;
 use crate::words::{MOST_REQUESTS, MOST_SEARCH_SECONDS};
 use connection::ConnectionFault;
@@ -100,7 +100,9 @@ pub enum CommandFault {
     Column,
     #[error("error: --separator is comma, semicolon or tab")]
     Separator,
-    #[error("error: --provider-keeps is revisions or versions")]
+    #[error("error: --settle-time is 0 to {most} seconds", most = MOST_SETTLE_SECONDS)]
+    SettleTime,
+    #[error("error: --provider-keeps is revisions, versions or nothing")]
     ProviderKeeps,
     #[error("error: show takes one of --store FILE and --journal FILE")]
     Show,
@@ -162,7 +164,7 @@ impl CommandFault {
             CommandFault::MostLeavers | CommandFault::GiveUpAfter => Status::Usage,
             CommandFault::Column | CommandFault::Separator => Status::Usage,
             CommandFault::Streams | CommandFault::Show => Status::Usage,
-            CommandFault::ProviderKeeps => Status::Usage,
+            CommandFault::ProviderKeeps | CommandFault::SettleTime => Status::Usage,
             CommandFault::Events(_) => Status::Usage,
             CommandFault::Users(SourceFault::Header) => Status::Refused,
             CommandFault::Users(SourceFault::Memory) => Status::Fault,

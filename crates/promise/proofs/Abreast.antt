@@ -8,7 +8,6 @@ use Rattle.scim_key.specs.declared.records.RecordName.{RecordName}
 use Rattle.journal_core.specs.declared.journals.Journal.{Ghosts as Journals}
 use Rattle.connector_core.specs.Maps.{BookMap, book_of}
 use Rattle.connector_core.specs.State.{State as Connector}
-use Rattle.connector_core.specs.declared.keeps.Keeps.TheVariants.{Revisions}
 use Rattle.provisioning.specs.Abreast.{PushesAllAbreast, PushesBoth, groups_of, is_user, users_of}
 use Rattle.provisioning.specs.Openings.{Opening}
 use Rattle.provisioning.specs.Orders.{IsPushOrder}
@@ -183,21 +182,21 @@ module _ {J I O : Type 0} (P Q : Type 0) (h : Journals J) (received : I → Opti
 
   -- ---- each answer that is under way is learnt from
 
-  closed : (track : Track I O) (set : Sets track) (bs : List Known) (opened : List (Opening I O)) (old new : Connector J) (result : Result (Unit {0}) RunFault) → Closes received h Revisions track old new result
+  closed : (track : Track I O) (set : Sets track) (bs : List Known) (opened : List (Opening I O)) (old new : Connector J) (result : Result (Unit {0}) RunFault) → Closes received h (keeping_at base) track old new result
       → Ends opened bs new.book → Ends opened ((track, set) ∷ bs) old.book
   closed (UnderWay a f) set bs opened old new (Ok done) closes ends = heard P Q h received posted base last a f set bs opened old new (Ok closes.0) closes.1 ends
   closed (UnderWay a f) set bs opened old new (Err fault) closes ends = heard P Q h received posted base last a f set bs opened old new (Err fault) closes ends
   closed (Delayed a) set bs opened old new result closes ends = makes_waits P Q h received posted base last a set bs opened old.book (on_book opened bs old new closes.0 ends)
   closed (IsDone a standing) set bs opened old new result closes ends = makes_done P Q h received posted base last a standing set bs opened old.book (on_book opened bs old new closes.0 ends)
 
-  looked : (tracks : List (Track I O)) (opened : List (Opening I O)) (old new : Connector J) → LooksThrough received h Revisions tracks old new → Ends opened [] new.book → (bs : List Known) → tracks_of bs ≡ tracks → Ends opened bs old.book
+  looked : (tracks : List (Track I O)) (opened : List (Opening I O)) (old new : Connector J) → LooksThrough received h (keeping_at base) tracks old new → Ends opened [] new.book → (bs : List Known) → tracks_of bs ≡ tracks → Ends opened bs old.book
   looked [] opened old new same ends bs none =
       subst (λ (l : List Known). Ends opened l old.book) (sym (no_more bs none)) (on_book opened [] old new same ends)
   looked (track ∷ tracks) opened old new l ends [] are = absurd (cc)
   looked (track ∷ tracks) opened old new l ends (b ∷ bs) are =
       let first : track ≡ b.0 = cc in
       let more : tracks_of bs ≡ tracks = cc in
-      closed b.0 b.1 bs opened old l.1 l.0 (subst (λ (t : Track I O). Closes received h Revisions t old l.1 l.0) first l.2) (looked tracks opened l.1 new l.3 ends bs more)
+      closed b.0 b.1 bs opened old l.1 l.0 (subst (λ (t : Track I O). Closes received h (keeping_at base) t old l.1 l.0) first l.2) (looked tracks opened l.1 new l.3 ends bs more)
 
   -- ---- what ends a run
 

@@ -29,8 +29,8 @@ use Rattle.connector_core.specs.Changing.{judged, names_of}
 use Rattle.connector_core.specs.History.{History}
 use Rattle.connector_core.specs.Maps.{BookMap, book_of}
 use Rattle.connector_core.specs.State.{State as Connector}
-use Rattle.connector_core.specs.declared.keeps.Keeps.TheVariants.{Revisions}
 use Rattle.provisioning.specs.Exchanges.{Becomes, Came, answered, lost}
+use Rattle.provisioning.specs.Services.{keeping_at}
 use Rattle.world_model.specs.World.{Asked, Answered, World, empty}
 use Rattle.world_model.specs.Invariant.{AllOurs, Names, all_names}
 use Rattle.world_model.specs.Others.{HeadlineAmong, LeavesAlone, run_among}
@@ -127,7 +127,7 @@ module _ {R J I O P Q : Type 0} (g : Registries R) (h : Journals J) (received : 
   abbrev pub IsNamed : State → Type 0
   IsNamed s = keys s.book ≡ names_of s.history
 
-  came_same : (request : Request) (came : Came) (before after : Connector J) (book : BookMap) → Becomes h Revisions request came before after → LeavesBook request came before after book
+  came_same : (request : Request) (came : Came) (before after : Connector J) (book : BookMap) → Becomes h (keeping_at base) request came before after → LeavesBook request came before after book
       → keys book ≡ keys before.book
   came_same request (answered answer learnt) before after book becomes leaves = elim leaves [
     | inl same ↦ ap keys same ∙ becomes.names

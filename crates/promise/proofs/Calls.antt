@@ -30,7 +30,6 @@ use Rattle.connector_core.proofs.LawProofs.{maps_accept}
 use Rattle.journal_core.specs.Entries.{EntryMap}
 use Rattle.std.specs.FinMap.{keys}
 use Rattle.connector_core.specs.declared.asking.Ask.TheVariants.{Send}
-use Rattle.connector_core.specs.declared.keeps.Keeps.TheVariants.{Revisions}
 use Rattle.provisioning.specs.Exchanges.{Becomes, Came, IsAsked, answered, lost, answer_in as answer_of}
 use Rattle.provisioning.specs.Services.{keeping_at}
 use Rattle.world_model.specs.Safe.{IsPrefixOf}
@@ -86,7 +85,7 @@ carried received written request reader left (answered answer learnt) said bring
 
 module _ {J : Type 0} (h : Journals J) where
   pub unsent : (text : List ℕ) (request : Request) (came : Came) (contents : Option (List ℕ)) (written : Writing) (before after : Connector J) → client.Sends text (fresh_writing contents) written (answer_of came)
-      → written ≡ fresh_writing contents → Becomes h Revisions request came before after → after.book ≡ before.book
+      → written ≡ fresh_writing contents → Becomes h (keeping_at base) request came before after → after.book ≡ before.book
   unsent text request (lost fault) contents written before after sends none becomes = ap (λ (c : Connector J). c.book) becomes
   unsent text request (answered answer learnt) contents written before after sends none becomes =
       let flushes : 0 ≡ written.flushes = sym (ap (λ (w : Writing). w.flushes) none) in
@@ -169,7 +168,7 @@ module _ {R J I O P Q : Type 0} (g : Registries R) (h : Journals J) (received : 
       still : AreOf found (book_of before.book) (keys before.book) → Trace g h received posted remaining contents base mid (record mid { book = book })
       still are = next here (reopens found book (entries_of found before.book mid.book was are) opened)
 
-      heard : (came : Came) (asked : IsAsked received posted (keeping_at base) e.request e.reader e.writer (answer_of came)) → Becomes h Revisions e.request came before after
+      heard : (came : Came) (asked : IsAsked received posted (keeping_at base) e.request e.reader e.writer (answer_of came)) → Becomes h (keeping_at base) e.request came before after
           → CameFrom mid.written e.request (fresh_reading (received e.reader)) asked.left came asked.read
           → (with_book : BookMap) → LeavesTaught e.request came before after with_book → Step g h received posted remaining contents base mid (record mid { book = with_book })
       heard came asked becomes from with_book leaves = hears e.request with_book (record {
@@ -186,7 +185,7 @@ module _ {R J I O P Q : Type 0} (g : Registries R) (h : Journals J) (received : 
         from = from;
       })
 
-      by_learnt : (answer : Answer) (learnt : Result Learnt LearnFault) (asked : IsAsked received posted (keeping_at base) e.request e.reader e.writer (Ok answer)) → Becomes h Revisions e.request (answered answer learnt) before after
+      by_learnt : (answer : Answer) (learnt : Result Learnt LearnFault) (asked : IsAsked received posted (keeping_at base) e.request e.reader e.writer (Ok answer)) → Becomes h (keeping_at base) e.request (answered answer learnt) before after
           → CameFrom mid.written e.request (fresh_reading (received e.reader)) asked.left (answered answer learnt) asked.read
           → Leaves h before after (after_learning (book_of before.book) (learn (book_of before.book) e.request answer)) (keys before.book) learnt
           → Trace g h received posted remaining contents base mid (record mid { book = book })
@@ -198,7 +197,7 @@ module _ {R J I O P Q : Type 0} (g : Registries R) (h : Journals J) (received : 
         | inr are ↦ next here (heard (answered answer (Err fault)) asked becomes from book (inr (answer, Err fault, found, refl, are, opened)))
       ]
 
-      go : (came : Came) (asked : IsAsked received posted (keeping_at base) e.request e.reader e.writer (answer_of came)) → Becomes h Revisions e.request came before after
+      go : (came : Came) (asked : IsAsked received posted (keeping_at base) e.request e.reader e.writer (answer_of came)) → Becomes h (keeping_at base) e.request came before after
           → CameFrom mid.written e.request (fresh_reading (received e.reader)) asked.left came asked.read → Trace g h received posted remaining contents base mid (record mid { book = book })
       go (lost fault) asked becomes from = still (left found (subst (λ (c : Connector J). h.may_hold c.journal found) becomes may))
       go (answered answer learnt) asked becomes from = by_learnt answer learnt asked becomes from (becomes.leaves honest left)

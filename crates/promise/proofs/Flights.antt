@@ -8,7 +8,6 @@ use Rattle.connector_core.specs.Asking.{asking}
 use Rattle.connector_core.specs.Maps.{BookMap, book_of}
 use Rattle.connector_core.specs.State.{State as Connector}
 use Rattle.connector_core.specs.declared.asking.Ask.TheVariants.{Send}
-use Rattle.connector_core.specs.declared.keeps.Keeps.TheVariants.{Revisions}
 use Rattle.provisioning.specs.Exchanges.{Becomes, Came, IsAsked, answer_in}
 use Rattle.provisioning.specs.Openings.{Opening}
 use Rattle.provisioning.specs.Tracks.{Begins, IsHeard, IsLearnt, IsReadFrom, IsSetOut, SetsOut}
@@ -136,7 +135,7 @@ module _ {J I O : Type 0} (P Q : Type 0) (h : Journals J) (received : I → Opti
   }
 
   spelled : (a : Account) (f : Flight I O) (set : SetOut (UnderWay a f)) (bs : List Begun) (opened : List (Opening I O)) (old new : Connector J) (came : Came) → IsFormed base (Asked f.request)
-      → IsAsked received posted (keeping_at base) f.request set.0.0 set.0.1 (answer_in came) → Becomes h Revisions f.request came old new → Makes opened bs new.book → Makes opened ((UnderWay a f, set) ∷ bs) old.book
+      → IsAsked received posted (keeping_at base) f.request set.0.0 set.0.1 (answer_in came) → Becomes h (keeping_at base) f.request came old new → Makes opened bs new.book → Makes opened ((UnderWay a f, set) ∷ bs) old.book
   spelled a f set bs opened old new came formed asked becomes m =
       let e : Asking I O = (a.name, exchange_of f set.0 came) in
       record {
@@ -148,7 +147,7 @@ module _ {J I O : Type 0} (P Q : Type 0) (h : Journals J) (received : I → Opti
       }
 
   pub heard : (a : Account) (f : Flight I O) (set : SetOut (UnderWay a f)) (bs : List Begun) (opened : List (Opening I O)) (old new : Connector J) (result : Result (Option RecordFault) RunFault)
-      → IsLearnt received h Revisions f old new result → Makes opened bs new.book → Makes opened ((UnderWay a f, set) ∷ bs) old.book
+      → IsLearnt received h (keeping_at base) f old new result → Makes opened bs new.book → Makes opened ((UnderWay a f, set) ∷ bs) old.book
   heard a f set bs opened old new result learnt m =
       let asked = asked_of received posted (keeping_at base) f set.0 set.1 (answer_in learnt.came) learnt.heard in
       elim (asked.spelled) [

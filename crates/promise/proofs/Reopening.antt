@@ -146,7 +146,7 @@ module _ {R J I O P Q : Type 0} (g : Registries R) (h : Journals J) (received : 
         from = carried received mid.written e.1.request e.1.reader over.sent.left e.1.came over.sent.read brings;
       })
 
-      stands_more : (came : Came) → e.1.came ≡ came → IsOver h received posted base e s t → Becomes h Revisions e.1.request came s t → h.is_honest t.journal → Stands s → Stands t
+      stands_more : (came : Came) → e.1.came ≡ came → IsOver h received posted base e s t → Becomes h (keeping_at base) e.1.request came s t → h.is_honest t.journal → Stands s → Stands t
       stands_more (lost fault) is over same honest stands = subst Stands (sym same) stands
       stands_more (answered answer learnt) is over learns honest stands = record {
         trace = next stands.trace (over_to over t.book (inl refl));
@@ -165,7 +165,7 @@ module _ {R J I O P Q : Type 0} (g : Registries R) (h : Journals J) (received : 
         ];
       }
 
-    honest_more : (request : Request) (came : Came) (s t : Connector J) → Becomes h Revisions request came s t → h.is_honest t.journal → h.is_honest s.journal
+    honest_more : (request : Request) (came : Came) (s t : Connector J) → Becomes h (keeping_at base) request came s t → h.is_honest t.journal → h.is_honest s.journal
     honest_more request (lost fault) s t same honest = subst (λ (c : Connector J). h.is_honest c.journal) same honest
     honest_more request (answered answer learnt) s t learns honest = learns.journal.honest honest
 

@@ -42,8 +42,8 @@ use Rattle.connector_core.specs.Maps.{BookMap, book_of}
 use Rattle.connector_core.specs.State.{AreOf, IsOpened, State as Connector}
 use Rattle.connector_core.specs.declared.learning.Learnt.{Learnt}
 use Rattle.connector_core.specs.declared.learning.LearnFault.{LearnFault}
-use Rattle.connector_core.specs.declared.keeps.Keeps.TheVariants.{Revisions}
 use Rattle.provisioning.specs.Exchanges.{Becomes, Came, answered, lost, answer_in as answer_of}
+use Rattle.provisioning.specs.Services.{keeping_at}
 use Rattle.world_model.specs.World.{World, Asked, Answered, empty, run}
 use Rattle.world_model.proofs.Durable.{AskedFairly}
 use Rattle.world_model.proofs.Invariant.{always_inv}
@@ -377,14 +377,14 @@ module _ (base : List ℕ) (is_base : IsBase base) (u : typed.State) (said : IsR
             ]
 
         -- the connector has the book that the call left
-        left_by : (answer : Answer) (learnt : Result Learnt LearnFault) → Heard answer → Becomes h Revisions request (answered answer learnt) x.before x.after → book ≡ x.after.book → Goes base u after_hearing
+        left_by : (answer : Answer) (learnt : Result Learnt LearnFault) → Heard answer → Becomes h (keeping_at base) request (answered answer learnt) x.before x.after → book ≡ x.after.book → Goes base u after_hearing
         left_by answer (Ok learnt) said becomes same = taught answer said (ap book_of same ∙ becomes.ok) (ap keys same ∙ becomes.names)
         left_by answer (Err fault) said becomes same = unchanged (same ∙ becomes.err ∙ x.was)
 
         answers_same : (answer other : Answer) (learnt also : Result Learnt LearnFault) → answered answer learnt ≡ answered other also → other ≡ answer
         answers_same answer other learnt also e = cc
 
-        by_came : (came : Came) (taken : Reads request (fresh_reading (received x.reader)) x.asked.left (answer_of came)) → Becomes h Revisions request came x.before x.after
+        by_came : (came : Came) (taken : Reads request (fresh_reading (received x.reader)) x.asked.left (answer_of came)) → Becomes h (keeping_at base) request came x.before x.after
             → LeavesBook request came x.before x.after book → CameFrom old.written request (fresh_reading (received x.reader)) x.asked.left came taken → Goes base u after_hearing
         by_came (lost fault) taken becomes leaves from = elim leaves [
           | inl same ↦ unchanged (same ∙ ap (λ (c : Connector J). c.book) becomes ∙ x.was)

@@ -15,7 +15,6 @@ use Rattle.connector_core.specs.Changing.{taking}
 use Rattle.connector_core.specs.Maps.{BookMap, book_of}
 use Rattle.connector_core.specs.State.{IsOpened, LeavesBook, State as Connector}
 use Rattle.connector_core.specs.declared.asking.Ask.TheVariants.{Send}
-use Rattle.connector_core.specs.declared.keeps.Keeps.TheVariants.{Revisions}
 use Rattle.provisioning.specs.Carrying.{CarriesAt, CarriesBy}
 use Rattle.provisioning.specs.Exchanges.{Becomes, Came, Exchange, IsAsked, answer_in}
 use Rattle.provisioning.specs.Openings.{Opening}
@@ -51,7 +50,7 @@ exchange_of f stream came =
 pub record IsOver {J I O : Type 0} (h : Journals J) (received : I → Option (List ℕ)) (posted : O → Option (List ℕ))
     (base : List ℕ) (e : Asking I O) (before after : Connector J) : Type 0 where
   pub sent : IsAsked received posted (keeping_at base) e.1.request e.1.reader e.1.writer (answer_in e.1.came)
-  pub becomes : Becomes h Revisions e.1.request e.1.came before after
+  pub becomes : Becomes h (keeping_at base) e.1.request e.1.came before after
 
 module _ {J I O P Q : Type 0} (h : Journals J) (received : I → Option (List ℕ)) (posted : O → Option (List ℕ))
     (base : List ℕ) where
@@ -105,7 +104,7 @@ module _ {R J I O P Q : Type 0} (g : Registries R) (h : Journals J) (received : 
   FlightsAreExchanges =
       (base : List ℕ) (name : RecordName) (stream : I × O) (f : Flight I O) (before after : Connector J)
       (result : Result (Option RecordFault) RunFault) → IsSetOut posted (keeping_at base) f.request stream f
-      → IsLearnt received h Revisions f before after result
+      → IsLearnt received h (keeping_at base) f before after result
       → (came : Came) × IsOver h received posted base (name, exchange_of f stream came) before after
 
   -- The connector is opened again after exchanges that were under way at once, whether or not one of them failed and

@@ -16,7 +16,6 @@ use Rattle.connector_core.specs.Changing.{taking}
 use Rattle.connector_core.specs.Maps.{BookMap, book_of}
 use Rattle.connector_core.specs.State.{State as Connector}
 use Rattle.connector_core.specs.declared.asking.Ask.TheVariants.{Send}
-use Rattle.connector_core.specs.declared.keeps.Keeps.TheVariants.{Revisions}
 use Rattle.provisioning.specs.Carrying.{Carries}
 use Rattle.provisioning.specs.Exchanges.{Becomes, IsAsked, answer_in}
 use Rattle.provisioning.specs.Openings.{Opening}
@@ -53,7 +52,7 @@ module _ {J I O P Q : Type 0} (h : Journals J) (received : I → Option (List �
       Has sent e.1.request
       × ((before : Connector J) × (after : Connector J)
       × IsAsked received posted (keeping_at base) e.1.request e.1.reader e.1.writer (answer_in e.1.came)
-      × Becomes h Revisions e.1.request e.1.came before after × (before.book ≡ book)
+      × Becomes h (keeping_at base) e.1.request e.1.came before after × (before.book ≡ book)
       × ConnectorDoes moves sent after.book last)
   ConnectorDoes (serves c ∷ moves) sent book last = ⊥
 

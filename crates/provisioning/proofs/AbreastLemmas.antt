@@ -23,8 +23,8 @@ module _ {I O J : Type 0} (remaining : I → Option (List ℕ)) (contents : O �
   same_onward : (old new : State J) → new ≡ old → Onward old.book new.book
   same_onward old new same = subst (λ (s : State J). Onward old.book s.book) (sym same) (onward_still old.book)
 
-  learnt_onward : (f : Flight I O) (old new : State J) (result : Result (Option RecordFault) RunFault) → IsLearnt remaining g service.keeps f old new result → Onward old.book new.book
-  learnt_onward f old new result l = becomes_onward g service.keeps f.request l.came old new l.becomes
+  learnt_onward : (f : Flight I O) (old new : State J) (result : Result (Option RecordFault) RunFault) → IsLearnt remaining g service f old new result → Onward old.book new.book
+  learnt_onward f old new result l = becomes_onward g service f.request l.came old new l.becomes
 
   move_onward : (opened : List (Opening I O)) (told : List Done) (old new : Scene I O J) → IsMove remaining contents g service window opened told old new → Onward old.state.book new.state.book
   move_onward opened told old new (inl b) = same_onward old.state new.state b.state
@@ -51,13 +51,13 @@ module _ {I O J : Type 0} (remaining : I → Option (List ℕ)) (contents : O �
   causes_onward last scene rest new fault (inr (inl c)) = advances_onward c.0 last scene.state new (Err fault) c.2
   causes_onward last scene rest new fault (inr (inr c)) = same_onward scene.state new c.4
 
-  closes_onward : (track : Track I O) (old new : State J) (result : Result (Unit {0}) RunFault) → Closes remaining g service.keeps track old new result → Onward old.book new.book
+  closes_onward : (track : Track I O) (old new : State J) (result : Result (Unit {0}) RunFault) → Closes remaining g service track old new result → Onward old.book new.book
   closes_onward (UnderWay a f) old new (Ok done) c = learnt_onward f old new (Ok c.0) c.1
   closes_onward (UnderWay a f) old new (Err fault) c = learnt_onward f old new (Err fault) c
   closes_onward (Delayed a) old new result c = same_onward old new c.0
   closes_onward (IsDone a standing) old new result c = same_onward old new c.0
 
-  looks_onward : (tracks : List (Track I O)) (old new : State J) → LooksThrough remaining g service.keeps tracks old new → Onward old.book new.book
+  looks_onward : (tracks : List (Track I O)) (old new : State J) → LooksThrough remaining g service tracks old new → Onward old.book new.book
   looks_onward [] old new same = same_onward old new same
   looks_onward (track ∷ tracks) old new l = onward_more old.book l.1.book new.book (closes_onward track old l.1 l.0 l.2) (looks_onward tracks l.1 new l.3)
 

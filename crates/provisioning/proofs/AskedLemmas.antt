@@ -13,32 +13,32 @@ use Rattle.provisioning.specs.Tracks.{IsHeard, IsReadFrom, IsSetOut}
 use Rattle.provisioning.specs.declared.tracks.Flight.{Flight}
 
 module _ {I O : Type 0} (remaining : I → Option (List ℕ)) (contents : O → Option (List ℕ)) (service : Service) (request : Request) (reader : I) (writer : O) where
-  asked_whole : (written : Writing) (came : Result Answer ExchangeFault) → Starts (text_of service.base (written_for service.keeps request)) (fresh_writing (contents writer)) written (Ok tt) → SpellsSent service.base (written_for service.keeps request) (fresh_writing (contents writer)) written
+  asked_whole : (written : Writing) (came : Result Answer ExchangeFault) → Starts (text_of service.base (written_for service request)) (fresh_writing (contents writer)) written (Ok tt) → SpellsSent service.base (written_for service request) (fresh_writing (contents writer)) written
       → IsReadFrom remaining request reader came → IsAsked remaining contents service request reader writer came
   asked_whole written came starts spelled read = record {
     left = read.left;
     written = written;
-    sent = sends_reply (text_of service.base (written_for service.keeps request)) (fresh_writing (contents writer)) written came read.reply starts;
+    sent = sends_reply (text_of service.base (written_for service request)) (fresh_writing (contents writer)) written came read.reply starts;
     spelled = spelled;
     read = read.read;
     known = read.known;
   }
 
-  asked_part : (written : Writing) (fault : ExchangeFault) → Starts (text_of service.base (written_for service.keeps request)) (fresh_writing (contents writer)) written (Err fault) → SpellsSent service.base (written_for service.keeps request) (fresh_writing (contents writer)) written
+  asked_part : (written : Writing) (fault : ExchangeFault) → Starts (text_of service.base (written_for service request)) (fresh_writing (contents writer)) written (Err fault) → SpellsSent service.base (written_for service request) (fresh_writing (contents writer)) written
       → IsAsked remaining contents service request reader writer (Err fault)
   asked_part written fault starts spelled =
-      let sends = sends_fault (text_of service.base (written_for service.keeps request)) (fresh_writing (contents writer)) written fault starts in
+      let sends = sends_fault (text_of service.base (written_for service request)) (fresh_writing (contents writer)) written fault starts in
       record {
         left = fresh_reading (remaining reader);
         written = written;
         sent = sends.0;
         spelled = spelled;
-        read = reads_none request (fresh_reading (remaining reader)) (text_of service.base (written_for service.keeps request)) (fresh_writing (contents writer)) written fault starts;
+        read = reads_none request (fresh_reading (remaining reader)) (text_of service.base (written_for service request)) (fresh_writing (contents writer)) written fault starts;
         known = hindered_known request (remaining reader) (remaining reader) (Err fault) sends.1;
       }
 
-  asked_so : (written : Writing) (sent : Result (Unit {0}) ExchangeFault) (came : Result Answer ExchangeFault) → Starts (text_of service.base (written_for service.keeps request)) (fresh_writing (contents writer)) written sent
-      → SpellsSent service.base (written_for service.keeps request) (fresh_writing (contents writer)) written → IsHeard remaining request reader sent came → IsAsked remaining contents service request reader writer came
+  asked_so : (written : Writing) (sent : Result (Unit {0}) ExchangeFault) (came : Result Answer ExchangeFault) → Starts (text_of service.base (written_for service request)) (fresh_writing (contents writer)) written sent
+      → SpellsSent service.base (written_for service request) (fresh_writing (contents writer)) written → IsHeard remaining request reader sent came → IsAsked remaining contents service request reader writer came
   asked_so written (Ok done) came starts spelled heard = asked_whole written came starts spelled heard
   asked_so written (Err fault) came starts spelled same = subst (λ (r : Result Answer ExchangeFault). IsAsked remaining contents service request reader writer r) (sym same) (asked_part written fault starts spelled)
 

@@ -57,11 +57,16 @@ only_one {X} x others all (front, back, all_are, others_are) none = go front bac
 none_added : {X : Type 0} (xs more : List X) → more ≡ [] → xs ++ more ≡ xs
 none_added xs more none = ap (λ ys. xs ++ ys) none ∙ append-nil xs
 
-stands_at : (book : Book) (a : Account) (standing : Standing) → a.exchanges ≤ most_exchanges → StandsAt book a standing → Stands book a.name a.exchanges a.last standing
-stands_at book a standing most (inl rests) = inl rests
-stands_at book a standing most (inr s) =
-    let all : most_exchanges ≤ a.exchanges = s.all in
-    inr (record { all = omega (arith, most, all); unconfirmed = s.unconfirmed; last_is = s.last_is })
+stands_at : (service : Service) (book : Book) (a : Account) (standing : Standing) → a.exchanges ≤ most_exchanges → StandsAt service book a standing → Stands service.is_versioned book a.name a.exchanges a.last standing
+stands_at service book a standing most (inl rests) = inl rests
+stands_at service book a standing most (inr s) = inr (record {
+  at_end = elim s.at_end [
+    | inl all ↦ inl (omega (arith, most, all))
+    | inr held ↦ inr held
+  ];
+  unconfirmed = s.unconfirmed;
+  last_is = s.last_is;
+})
 
 -- ---- one record
 
@@ -93,13 +98,13 @@ module _ {I O J : Type 0} (remaining : I → Option (List ℕ)) (contents : O �
   begun_so a first last old new (IsDone later standing) so (none, same, stands) =
       subst (λ (x : Account). Pushed x standing (first ++ last) old new) (sym same)
       (subst (λ (l : List (Opening I O)). Pushed a standing l old new) (sym (none_added first last none))
-      (so_pushed remaining contents g service a.name first old new a.exchanges a.last standing so (stands_at (book_of new.book) a standing so.most stands)))
+      (so_pushed remaining contents g service a.name first old new a.exchanges a.last standing so (stands_at service (book_of new.book) a standing so.most stands)))
 
   abbrev exchange_of : Flight I O → I × O → Came → Exchange I O
   exchange_of f stream came = record { request = f.request; reader = stream.0; writer = stream.1; came = came }
 
   flown : (a : Account) (f : Flight I O) (opened : List (Opening I O)) (old here new : State J) (result : Result (Option RecordFault) RunFault)
-      → (fl : IsFlying a f opened old here) → (l : IsLearnt remaining g service.keeps f here new result) → IsExchange remaining contents g service fl.before.name (exchange_of f fl.sets.stream l.came) here new
+      → (fl : IsFlying a f opened old here) → (l : IsLearnt remaining g service f here new result) → IsExchange remaining contents g service fl.before.name (exchange_of f fl.sets.stream l.came) here new
   flown a f opened old here new result fl l = record {
     asked = fl.sets.asked;
     sent = asked_of remaining contents service f fl.sets.stream fl.sets.set_out (answer_in l.came) l.heard;
@@ -107,7 +112,7 @@ module _ {I O J : Type 0} (remaining : I → Option (List ℕ)) (contents : O �
   }
 
   heard_so : (a : Account) (f : Flight I O) (opened : List (Opening I O)) (old here new : State J) (fault : Option RecordFault)
-      → IsFlying a f opened old here → IsLearnt remaining g service.keeps f here new (Ok fault) → SoFar a.name opened old new a.exchanges (option_or fault a.last)
+      → IsFlying a f opened old here → IsLearnt remaining g service f here new (Ok fault) → SoFar a.name opened old new a.exchanges (option_or fault a.last)
   heard_so a f opened old here new fault fl l =
       subst (λ (x : Account). SoFar x.name opened old new x.exchanges (option_or fault x.last)) (sym fl.sets.later_is)
       (subst (λ (o : List (Opening I O)). SoFar fl.before.name o old new (fl.before.exchanges + 1) (option_or fault fl.before.last)) (sym fl.opened_are)
@@ -317,12 +322,12 @@ module _ {I O J : Type 0} (remaining : I → Option (List ℕ)) (contents : O �
 
   unbegun_part : (names : List RecordName) (done : List Done) (first last : List (Opening I O)) (old : State J) (scene : Scene I O J) (rest : List (Track I O)) (mid new : State J) (fault : RunFault)
       → IsInTurn names done first old scene → (rest ≡ scene.tracks) → (mid ≡ scene.state) → length scene.tracks < 1 → IsUnmade last fault
-      → (last ≡ []) ⊎ ((name : RecordName) × (later : List RecordName) × (scene.waiting ≡ name ∷ later)) → LooksThrough remaining g service.keeps rest mid new
+      → (last ≡ []) ⊎ ((name : RecordName) × (later : List RecordName) × (scene.waiting ≡ name ∷ later)) → LooksThrough remaining g service rest mid new
       → PartDone remaining contents g service limit names (first ++ last) old new fault
   unbegun_part names done first last old scene rest mid new fault p left same room unmade waits looked =
       let none : scene.tracks ≡ [] = is_empty scene.tracks (omega (arith, room)) in
       let here : (p.last ≡ []) × (scene.state ≡ p.between) = subst (λ (ts : List (Track I O)). AreAt ts p.last p.between scene.state) none p.at in
-      let still : new ≡ mid = subst (λ (ts : List (Track I O)). LooksThrough remaining g service.keeps ts mid new) (left ∙ none) looked in
+      let still : new ≡ mid = subst (λ (ts : List (Track I O)). LooksThrough remaining g service ts mid new) (left ∙ none) looked in
       go unmade waits (still ∙ same ∙ here.1) (ap (λ xs. xs ++ last) (p.opened_are ∙ none_added p.first p.last here.0)) (ap (names_with scene.waiting) none)
     where
       go : IsUnmade last fault → (last ≡ []) ⊎ ((name : RecordName) × (later : List RecordName) × (scene.waiting ≡ name ∷ later)) → new ≡ p.between → first ++ last ≡ p.first ++ last
@@ -352,12 +357,12 @@ module _ {I O J : Type 0} (remaining : I → Option (List ℕ)) (contents : O �
       }
 
   reported_part : (names : List RecordName) (done : List Done) (first last : List (Opening I O)) (old : State J) (scene : Scene I O J) (rest : List (Track I O)) (mid new : State J) (fault : RunFault) (a : Account) (standing : Standing)
-      → IsInTurn names done first old scene → IsWith (IsDone a standing) rest scene.tracks → last ≡ [] → mid ≡ scene.state → IsUntold fault ⊎ IsGivenUp limit fault → LooksThrough remaining g service.keeps rest mid new
+      → IsInTurn names done first old scene → IsWith (IsDone a standing) rest scene.tracks → last ≡ [] → mid ≡ scene.state → IsUntold fault ⊎ IsGivenUp limit fault → LooksThrough remaining g service rest mid new
       → PartDone remaining contents g service limit names (first ++ last) old new fault
   reported_part names done first last old scene rest mid new fault a standing p with none same end looked =
       let d = done_of a standing in
       let here = the_one (IsDone a standing) rest scene.tracks p.last p.between scene.state with p.at in
-      let still : new ≡ mid = subst (λ (ts : List (Track I O)). LooksThrough remaining g service.keeps ts mid new) here.1 looked in
+      let still : new ≡ mid = subst (λ (ts : List (Track I O)). LooksThrough remaining g service ts mid new) here.1 looked in
       record {
         done = done ++ d ∷ [];
         rest = scene.waiting;
@@ -374,13 +379,13 @@ module _ {I O J : Type 0} (remaining : I → Option (List ℕ)) (contents : O �
       }
 
   caused_part : (names : List RecordName) (done : List Done) (first last : List (Opening I O)) (old : State J) (scene : Scene I O J) (rest : List (Track I O)) (mid new : State J) (fault : RunFault)
-      → IsInTurn names done first old scene → Causes remaining contents g service 1 last scene rest mid fault → LooksThrough remaining g service.keeps rest mid new
+      → IsInTurn names done first old scene → Causes remaining contents g service 1 last scene rest mid fault → LooksThrough remaining g service rest mid new
       → PartDone remaining contents g service limit names (first ++ last) old new fault
   caused_part names done first last old scene rest mid new fault p (inl (left, same, u)) looked =
       unbegun_part names done first last old scene rest mid new fault p left same u.room u.unmade u.waits looked
   caused_part names done first last old scene rest mid new fault p (inr (inl (track, with, advances))) looked =
       let here = the_one track rest scene.tracks p.last p.between scene.state with p.at in
-      let still : new ≡ mid = subst (λ (ts : List (Track I O)). LooksThrough remaining g service.keeps ts mid new) here.1 looked in
+      let still : new ≡ mid = subst (λ (ts : List (Track I O)). LooksThrough remaining g service ts mid new) here.1 looked in
       record {
         done = done;
         rest = name_of track ∷ scene.waiting;

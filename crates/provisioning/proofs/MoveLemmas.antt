@@ -2,7 +2,6 @@
 use Rattle.std.proofs.Common.{◌<◌, ℕ, suc, length, List, [], ◌∷◌, ◌++◌, map, Option, inl, inr, refl, ap, sym, ◌∙◌, subst, append_assoc, append-nil, arith}
 use Rattle.journal_core.specs.declared.journals.Journal.{Ghosts}
 use Rattle.connector_core.specs.State.{State}
-use Rattle.connector_core.specs.declared.keeps.Keeps.{Keeps}
 use Rattle.provisioning.specs.Openings.{Opening}
 use Rattle.provisioning.specs.Runs.{Done}
 use Rattle.provisioning.specs.Services.{Service}
@@ -189,8 +188,8 @@ module _ {I O J : Type 0} (remaining : I → Option (List ℕ)) (contents : O �
 
 -- ---- looking through
 
-module _ {I O J : Type 0} (remaining : I → Option (List ℕ)) (g : Ghosts J) (keeps : Keeps) where
+module _ {I O J : Type 0} (remaining : I → Option (List ℕ)) (g : Ghosts J) (service : Service) where
   pub looks_more : (front back : List (Track I O)) (old between new : State J)
-      → LooksThrough remaining g keeps front old between → LooksThrough remaining g keeps back between new → LooksThrough remaining g keeps (front ++ back) old new
-  looks_more [] back old between new a b = subst (λ (s : State J). LooksThrough remaining g keeps back s new) a b
+      → LooksThrough remaining g service front old between → LooksThrough remaining g service back between new → LooksThrough remaining g service (front ++ back) old new
+  looks_more [] back old between new a b = subst (λ (s : State J). LooksThrough remaining g service back s new) a b
   looks_more (track ∷ front) back old between new a b = (a.0, a.1, a.2, looks_more front back a.1 between new a.3 b)

@@ -26,6 +26,7 @@ use Rattle.connector_core.specs.declared.learning.Learnt.{Learnt}
 use Rattle.connector_core.specs.declared.keeps.Keeps.{Keeps}
 use Rattle.connector_core.specs.declared.keeps.Keeps.TheVariants.{Revisions, Versions}
 use Rattle.provisioning.specs.Exchanges.{Becomes, Came, Learns, answered, lost}
+use Rattle.provisioning.specs.Services.{Service, taken_from}
 use Rattle.provisioning.specs.Onward.{Onward}
 
 -- ---- one step after the other
@@ -170,10 +171,10 @@ onward_more old between new p q = record {
   confirmed = λ name. transitive_up_to (confirmed_of (book_of old) name) (confirmed_of (book_of between) name) (confirmed_of (book_of new) name) (p.confirmed name) (q.confirmed name);
 }
 
-module _ {J : Type 0} (g : Ghosts J) (keeps : Keeps) (request : Request) where
-  learns_onward : (answer : Answer) (result : Result Learnt LearnFault) (old new : State J) → Learns g keeps request answer result old new → Onward old.book new.book
+module _ {J : Type 0} (g : Ghosts J) (service : Service) (request : Request) where
+  learns_onward : (answer : Answer) (result : Result Learnt LearnFault) (old new : State J) → Learns g service.keeps request answer result old new → Onward old.book new.book
   learns_onward answer (Ok learnt) old new l =
-      let goes = after_goes keeps (book_of old.book) request answer in
+      let goes = after_goes service.keeps (book_of old.book) request answer in
       record {
         names = l.names;
         rows = λ name. ap (λ (b : Book). wanted_row b name) l.ok ∙ (goes name).0;
@@ -181,6 +182,6 @@ module _ {J : Type 0} (g : Ghosts J) (keeps : Keeps) (request : Request) where
       }
   learns_onward answer (Err fault) old new l = subst (λ (b : BookMap). Onward old.book b) (sym l.err) (onward_still old.book)
 
-  pub becomes_onward : (came : Came) (old new : State J) → Becomes g keeps request came old new → Onward old.book new.book
-  becomes_onward (answered answer learnt) old new l = learns_onward answer learnt old new l
+  pub becomes_onward : (came : Came) (old new : State J) → Becomes g service request came old new → Onward old.book new.book
+  becomes_onward (answered answer learnt) old new l = learns_onward (taken_from service.is_versioned answer) learnt old new l
   becomes_onward (lost fault) old new same = subst (λ (s : State J). Onward old.book s.book) (sym same) (onward_still old.book)

@@ -1,5 +1,5 @@
 -- Nothing is asked for only of a record whose wanted revision is confirmed.
-use Rattle.std.proofs.Common.{◌≡◌, ℕ, true, false, not, List, Option, Some, None, inl, inr, refl, sym, ◌∙◌}
+use Rattle.std.proofs.Common.{◌≡◌, ℕ, Bool, true, false, not, List, Option, Some, None, inl, inr, refl, sym, ◌∙◌}
 use Rattle.std.proofs.lemmas.Bool.{and_parts, cases_Bool}
 use Rattle.std.specs.Option.{option_map}
 use Rattle.scim_key.proofs.RevisionLaws.{same as same_revisions}
@@ -46,11 +46,11 @@ rests_if book (Some known) done = rw done refl
 
 -- ---- after all exchanges of a record, by whether it is done
 
-pub confirmed_stands : (book : Book) (name : RecordName) (count : ℕ) (last : Option RecordFault) (revision : RevisionValue) → revision ≡ confirmed_of book name
-    → is_done_at book name ≡ true → Stands book name count last (Confirmed revision)
-confirmed_stands book name count last revision is done =
+pub confirmed_stands : (is_versioned : Bool) (book : Book) (name : RecordName) (count : ℕ) (last : Option RecordFault) (revision : RevisionValue) → revision ≡ confirmed_of book name
+    → is_done_at book name ≡ true → Stands is_versioned book name count last (Confirmed revision)
+confirmed_stands is_versioned book name count last revision is done =
     let rests : asking book name ≡ Some Nothing = rests_if book (book name) done in
     inl (rests, is, is ∙ confirmed_at_rest book name rests)
 
-pub spent_stands : (book : Book) (name : RecordName) (last : Option RecordFault) → is_done_at book name ≡ false → Stands book name most_exchanges last (Unconfirmed last)
-spent_stands book name last undone = inr (record { all = refl; unconfirmed = undone; last_is = refl })
+pub spent_stands : (is_versioned : Bool) (book : Book) (name : RecordName) (last : Option RecordFault) → is_done_at book name ≡ false → Stands is_versioned book name most_exchanges last (Unconfirmed last)
+spent_stands is_versioned book name last undone = inr (record { at_end = inl refl; unconfirmed = undone; last_is = refl })

@@ -69,14 +69,14 @@ module _ {I O J : Type 0} (remaining : I → Option (List ℕ)) (contents : O �
   -- ---- the end
 
   pub so_pushed : (opened : List (Opening I O)) (old new : State J) (count : ℕ) (last : Option RecordFault) (standing : Standing) → SoFar opened old new count last
-      → Stands (book_of new.book) name count last standing → IsPushed remaining contents g service name opened old new (record { exchanges = count; standing = standing })
+      → Stands service.is_versioned (book_of new.book) name count last standing → IsPushed remaining contents g service name opened old new (record { exchanges = count; standing = standing })
   so_pushed opened old new count last standing so stands = record {
     exchanges = so.exchanges;
     are = so.are;
     opened_are = so.opened_are;
     count = sym so.count_is;
     most = subst (λ n. n ≤ most_exchanges) (sym so.count_is) so.most;
-    stands = subst (λ l. Stands (book_of new.book) name count l standing) so.last_is stands;
+    stands = subst (λ l. Stands service.is_versioned (book_of new.book) name count l standing) so.last_is stands;
   }
 
   pub so_ends : (first last : List (Opening I O)) (old between new : State J) (count : ℕ) (fault : Option RecordFault) (end : RunFault) → SoFar first old between count fault

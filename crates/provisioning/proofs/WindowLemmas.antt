@@ -6,7 +6,6 @@ use Rattle.journal_core.specs.declared.journals.Journal.{Ghosts}
 use Rattle.connector_core.specs.Book.{Book}
 use Rattle.connector_core.specs.Maps.{book_of}
 use Rattle.connector_core.specs.State.{State}
-use Rattle.connector_core.specs.declared.keeps.Keeps.{Keeps}
 use Rattle.provisioning.proofs.ListLemmas.{adds_more, adds_none}
 use Rattle.provisioning.proofs.MoveLemmas.{looks_more, moves_beside, moves_more, no_moves, one_move, stops_beside, stops_here, stops_more, with_back, with_front}
 use Rattle.provisioning.proofs.RunLemmas.{goes_next, streak_next, tally_next}
@@ -143,8 +142,8 @@ module _ {I O J : Type 0} (remaining : I → Option (List ℕ)) (contents : O �
   -- ---- the first record, kept
 
   pub keeps_not : (track : Track I O) (beside : Result (Unit {0}) RunFault) (fault : RunFault) (old new : State J) (closed : Result (Unit {0}) RunFault)
-      → beside ≡ Err fault → Closes remaining g service.keeps track old new closed → KeepsTrack remaining g service.keeps track beside old new (Err fault)
-  keeps_not track beside fault old new closed is closes = subst (λ (b : Result (Unit {0}) RunFault). KeepsTrack remaining g service.keeps track b old new (Err fault)) (sym is) (closed, closes, refl)
+      → beside ≡ Err fault → Closes remaining g service track old new closed → KeepsTrack remaining g service track beside old new (Err fault)
+  keeps_not track beside fault old new closed is closes = subst (λ (b : Result (Unit {0}) RunFault). KeepsTrack remaining g service track b old new (Err fault)) (sym is) (closed, closes, refl)
 
   -- ---- advancing
 
@@ -313,7 +312,7 @@ module _ {I O J : Type 0} (remaining : I → Option (List ℕ)) (contents : O �
   }
 
   pub finishing_left : (room : ℕ) (less : room < window) (done then : List (Opening I O)) (begun : Track I O) (old : Scene I O J) (first : Track I O) (here there : Scene I O J) (new : State J) (closed : Result (Unit {0}) RunFault) (fault : RunFault)
-      → IsFinishing done begun old first here → Goes remaining contents g service room then here there (Err fault) → Closes remaining g service.keeps first there.state new closed
+      → IsFinishing done begun old first here → Goes remaining contents g service room then here there (Err fault) → Closes remaining g service first there.state new closed
       → Leaves remaining contents g service window (done ++ then) [] (with_first begun old) (scene there.waiting there.tracks new) fault
   finishing_left room less done then begun old first here there new closed fault f goes closes = (
     first ∷ [],
@@ -376,7 +375,7 @@ module _ {I O J : Type 0} (remaining : I → Option (List ℕ)) (contents : O �
 
   -- the first record beside others that went on, or didn't
   pub beside_kept : (room : ℕ) (less : room < window) (done then : List (Opening I O)) (begun : Track I O) (old : Scene I O J) (first later : Track I O) (here there : Scene I O J) (new : State J) (beside : Result (Unit {0}) RunFault)
-      → IsFinishing done begun old first here → Goes remaining contents g service room then here there beside → KeepsTrack remaining g service.keeps first beside there.state new (Ok later)
+      → IsFinishing done begun old first here → Goes remaining contents g service room then here there beside → KeepsTrack remaining g service first beside there.state new (Ok later)
       → IsFinishing (done ++ then) begun old later (scene there.waiting there.tracks new)
   beside_kept room less done then begun old first later here there new (Ok ok) f goes (same, is) =
       let later_is : later ≡ first = cc in
@@ -385,7 +384,7 @@ module _ {I O J : Type 0} (remaining : I → Option (List ℕ)) (contents : O �
   beside_kept room less done then begun old first later here there new (Err fault) f goes (closed, closes, is) = absurd (cc)
 
   pub beside_lost : (room : ℕ) (less : room < window) (done then : List (Opening I O)) (begun : Track I O) (old : Scene I O J) (first : Track I O) (here there : Scene I O J) (new : State J) (beside : Result (Unit {0}) RunFault) (fault : RunFault)
-      → IsFinishing done begun old first here → Goes remaining contents g service room then here there beside → KeepsTrack remaining g service.keeps first beside there.state new (Err fault)
+      → IsFinishing done begun old first here → Goes remaining contents g service room then here there beside → KeepsTrack remaining g service first beside there.state new (Err fault)
       → Leaves remaining contents g service window (done ++ then) [] (with_first begun old) (scene there.waiting there.tracks new) fault
   beside_lost room less done then begun old first here there new (Ok ok) fault f goes (same, is) = absurd (cc)
   beside_lost room less done then begun old first here there new (Err end) fault f goes (closed, closes, is) =
@@ -543,10 +542,10 @@ module _ {I O J : Type 0} (remaining : I → Option (List ℕ)) (contents : O �
   -- ---- a whole run
 
   pub abreast_all : (limit : ℕ) (names : List RecordName) (opened : List (Opening I O)) (old mid new : State J) (there : Window I O) (before after : Option (List Done)) (tally : Tally) (ts : List (Track I O))
-      → ts ≡ [] → IsThrough remaining contents g service window limit opened (scene names ts old) (scene_of there mid) before after tally → LooksThrough remaining g service.keeps there.tracks.items mid new
+      → ts ≡ [] → IsThrough remaining contents g service window limit opened (scene names ts old) (scene_of there mid) before after tally → LooksThrough remaining g service there.tracks.items mid new
       → AllMoved remaining contents g service window limit names opened old new before after tally
   abreast_all limit names opened old mid new there before after tally ts none t looked =
-      let same : new ≡ mid = subst (λ (xs : List (Track I O)). LooksThrough remaining g service.keeps xs mid new) t.none.0 looked in
+      let same : new ≡ mid = subst (λ (xs : List (Track I O)). LooksThrough remaining g service xs mid new) t.none.0 looked in
       record {
         done = t.done;
         names_are = t.names_are ∙ ap (λ (xs : List (Track I O)). map name_of xs ++ names) none;
@@ -560,14 +559,14 @@ module _ {I O J : Type 0} (remaining : I → Option (List ℕ)) (contents : O �
       }
 
   pub abreast_part : (limit : ℕ) (names : List RecordName) (opened : List (Opening I O)) (old mid new : State J) (there : Window I O) (fault : RunFault) (ts : List (Track I O))
-      → ts ≡ [] → IsBroken limit opened (scene names ts old) (scene_of there mid) fault → LooksThrough remaining g service.keeps there.tracks.items mid new
+      → ts ≡ [] → IsBroken limit opened (scene names ts old) (scene_of there mid) fault → LooksThrough remaining g service there.tracks.items mid new
       → PartMoved remaining contents g service window limit names opened old new fault
   abreast_part limit names opened old mid new there fault ts none (told, inl (left, never)) looked = record {
     done = told;
     rest = left.0 ++ there.tracks.items;
     between = left.1;
     breaks = inl (subst (λ (xs : List (Track I O)). Stops remaining contents g service window opened told (scene names xs old) (left.0 ++ there.tracks.items) left.1 fault) none left.2, never);
-    looked = looks_more remaining g service.keeps left.0 there.tracks.items left.1 mid new left.3 looked;
+    looked = looks_more remaining g service left.0 there.tracks.items left.1 mid new left.3 looked;
   }
   abreast_part limit names opened old mid new there fault ts none (told, inr gives) looked = record {
     done = told;
@@ -578,7 +577,7 @@ module _ {I O J : Type 0} (remaining : I → Option (List ℕ)) (contents : O �
   }
 
   pub abreast : (limit : ℕ) (names : List RecordName) (opened : List (Opening I O)) (old mid new : State J) (there : Window I O) (before after : Option (List Done)) (result : Result Tally RunFault) (ts : List (Track I O))
-      → ts ≡ [] → PushesThrough remaining contents g service window limit opened (scene names ts old) (scene_of there mid) before after result → LooksThrough remaining g service.keeps there.tracks.items mid new
+      → ts ≡ [] → PushesThrough remaining contents g service window limit opened (scene names ts old) (scene_of there mid) before after result → LooksThrough remaining g service there.tracks.items mid new
       → PushesAbreast remaining contents g service window limit names opened old new before after result
   abreast limit names opened old mid new there before after (Ok tally) ts none t looked = abreast_all limit names opened old mid new there before after tally ts none t looked
   abreast limit names opened old mid new there before after (Err fault) ts none t looked = abreast_part limit names opened old mid new there fault ts none t looked
@@ -656,27 +655,27 @@ fewer_left {I} {O} remaining contents g service turns left track first opened ol
         omega (arith, equal, less)
 
 -- a record that was given back is the same
-pub kept_is : {I O J : Type 0} (remaining : I → Option (List ℕ)) (g : Ghosts J) (keeps : Keeps) (first later : Track I O) (beside : Result (Unit {0}) RunFault) (old new : State J) → KeepsTrack remaining g keeps first beside old new (Ok later) → later ≡ first
-kept_is remaining g keeps first later (Ok ok) old new (same, is) = cc
-kept_is remaining g keeps first later (Err fault) old new (closed, closes, is) = absurd (cc)
+pub kept_is : {I O J : Type 0} (remaining : I → Option (List ℕ)) (g : Ghosts J) (service : Service) (first later : Track I O) (beside : Result (Unit {0}) RunFault) (old new : State J) → KeepsTrack remaining g service first beside old new (Ok later) → later ≡ first
+kept_is remaining g service first later (Ok ok) old new (same, is) = cc
+kept_is remaining g service first later (Err fault) old new (closed, closes, is) = absurd (cc)
 
 -- ---- looking through
 
-abbrev pub Looked : {I O J : Type 0} → (I → Option (List ℕ)) → Ghosts J → Keeps → (all ts : List (Track I O)) → (old here : State J) → Type 0
-Looked {I} {O} remaining g keeps all ts old here = (front : List (Track I O)) × (all ≡ front ++ ts) × LooksThrough remaining g keeps front old here
+abbrev pub Looked : {I O J : Type 0} → (I → Option (List ℕ)) → Ghosts J → Service → (all ts : List (Track I O)) → (old here : State J) → Type 0
+Looked {I} {O} remaining g service all ts old here = (front : List (Track I O)) × (all ≡ front ++ ts) × LooksThrough remaining g service front old here
 
-looks_push : {I O J : Type 0} (remaining : I → Option (List ℕ)) (g : Ghosts J) (keeps : Keeps) (front : List (Track I O)) (track : Track I O) (closed : Result (Unit {0}) RunFault) (old here new : State J)
-    → LooksThrough remaining g keeps front old here → Closes remaining g keeps track here new closed → LooksThrough remaining g keeps (front ++ track ∷ []) old new
-looks_push {J = J} remaining g keeps [] track closed old here new looked closes = (closed, new, subst (λ (s : State J). Closes remaining g keeps track s new closed) looked closes, refl)
-looks_push remaining g keeps (first ∷ front) track closed old here new looked closes = (looked.0, looked.1, looked.2, looks_push remaining g keeps front track closed looked.1 here new looked.3 closes)
+looks_push : {I O J : Type 0} (remaining : I → Option (List ℕ)) (g : Ghosts J) (service : Service) (front : List (Track I O)) (track : Track I O) (closed : Result (Unit {0}) RunFault) (old here new : State J)
+    → LooksThrough remaining g service front old here → Closes remaining g service track here new closed → LooksThrough remaining g service (front ++ track ∷ []) old new
+looks_push {J = J} remaining g service [] track closed old here new looked closes = (closed, new, subst (λ (s : State J). Closes remaining g service track s new closed) looked closes, refl)
+looks_push remaining g service (first ∷ front) track closed old here new looked closes = (looked.0, looked.1, looked.2, looks_push remaining g service front track closed looked.1 here new looked.3 closes)
 
-pub looked_next : {I O J : Type 0} (remaining : I → Option (List ℕ)) (g : Ghosts J) (keeps : Keeps) (all ts others front : List (Track I O)) (track : Track I O) (closed : Result (Unit {0}) RunFault) (old here new : State J)
-    → all ≡ front ++ ts → ts ≡ track ∷ others → LooksThrough remaining g keeps front old here → Closes remaining g keeps track here new closed → Looked remaining g keeps all others old new
-looked_next remaining g keeps all ts others front track closed old here new split is looked closes =
-    (front ++ track ∷ [], split ∙ ap (λ xs. front ++ xs) is ∙ sym (append_assoc front (track ∷ []) others), looks_push remaining g keeps front track closed old here new looked closes)
+pub looked_next : {I O J : Type 0} (remaining : I → Option (List ℕ)) (g : Ghosts J) (service : Service) (all ts others front : List (Track I O)) (track : Track I O) (closed : Result (Unit {0}) RunFault) (old here new : State J)
+    → all ≡ front ++ ts → ts ≡ track ∷ others → LooksThrough remaining g service front old here → Closes remaining g service track here new closed → Looked remaining g service all others old new
+looked_next remaining g service all ts others front track closed old here new split is looked closes =
+    (front ++ track ∷ [], split ∙ ap (λ xs. front ++ xs) is ∙ sym (append_assoc front (track ∷ []) others), looks_push remaining g service front track closed old here new looked closes)
 
-pub looked_all : {I O J : Type 0} (remaining : I → Option (List ℕ)) (g : Ghosts J) (keeps : Keeps) (all ts front : List (Track I O)) (old here : State J)
-    → all ≡ front ++ ts → ts ≡ drop 1 ts → LooksThrough remaining g keeps front old here → LooksThrough remaining g keeps all old here
-looked_all {I} {O} remaining g keeps all ts front old here split none looked =
+pub looked_all : {I O J : Type 0} (remaining : I → Option (List ℕ)) (g : Ghosts J) (service : Service) (all ts front : List (Track I O)) (old here : State J)
+    → all ≡ front ++ ts → ts ≡ drop 1 ts → LooksThrough remaining g service front old here → LooksThrough remaining g service all old here
+looked_all {I} {O} remaining g service all ts front old here split none looked =
     let all_is : all ≡ front = split ∙ ap (λ xs. front ++ xs) (none_left ts none) ∙ append-nil front in
-    subst (λ (xs : List (Track I O)). LooksThrough remaining g keeps xs old here) (sym all_is) looked
+    subst (λ (xs : List (Track I O)). LooksThrough remaining g service xs old here) (sym all_is) looked

@@ -23,7 +23,7 @@ use Rattle.connector_core.specs.declared.learning.LearnFault.{LearnFault}
 use Rattle.connector_core.specs.declared.learning.Learnt.{Learnt}
 use Rattle.provisioning.specs.Faults.{open_fault, unanswered, unlearnt}
 use Rattle.provisioning.specs.Openings.{Opening}
-use Rattle.provisioning.specs.Services.{Service, written_for}
+use Rattle.provisioning.specs.Services.{Service, taken_from, written_for}
 use Rattle.provisioning.specs.declared.faults.RunFault.{RunFault}
 use Rattle.provisioning.specs.declared.faults.RunFault.TheVariants.{Memory}
 use Rattle.provisioning.specs.declared.faults.RecordFault.{RecordFault}
@@ -39,10 +39,14 @@ abbrev pub answer_in : Came → Result Answer ExchangeFault
 answer_in (answered answer learnt) = Ok answer
 answer_in (lost fault) = Err fault
 
+-- the fault of the record, if nothing was learnt, or what ends the run
+abbrev pub taught : Result Learnt LearnFault → Result (Option RecordFault) RunFault
+taught (Ok learnt) = Ok None
+taught (Err fault) = unlearnt fault
+
 -- the fault of the record, if there was one, or what ends the run
 abbrev pub outcome : Came → Result (Option RecordFault) RunFault
-outcome (answered answer (Ok learnt)) = Ok None
-outcome (answered answer (Err fault)) = unlearnt fault
+outcome (answered answer learnt) = taught learnt
 outcome (lost fault) = unanswered fault
 
 -- ---- how it changes the connector
@@ -65,10 +69,11 @@ pub record Learns {J : Type 0} (g : Ghosts J) (keeps : Keeps) (request : Request
       (keys old.book)
       result
 
--- without an answer, the connector is unchanged
-abbrev pub Becomes : {J : Type 0} → Ghosts J → Keeps → Request → Came → (old new : State J) → Type 0
-Becomes g keeps request (answered answer learnt) old new = Learns g keeps request answer learnt old new
-Becomes g keeps request (lost fault) old new = new ≡ old
+-- An answer is learnt from as it is taken from the service. Without an answer, the connector is unchanged
+abbrev pub Becomes : {J : Type 0} → Ghosts J → Service → Request → Came → (old new : State J) → Type 0
+Becomes g service request (answered answer learnt) old new =
+    Learns g service.keeps request (taken_from service.is_versioned answer) learnt old new
+Becomes g service request (lost fault) old new = new ≡ old
 
 -- ---- on its stream
 
@@ -78,9 +83,9 @@ pub record IsAsked {I O : Type 0} (remaining : I → Option (List ℕ)) (content
     (request : Request) (reader : I) (writer : O) (came : Result Answer ExchangeFault) : Type 0 where
   pub left : Reading
   pub written : Writing
-  pub sent : Sends (text_of service.base (written_for service.keeps request)) (fresh_writing (contents writer)) written
+  pub sent : Sends (text_of service.base (written_for service request)) (fresh_writing (contents writer)) written
       came
-  pub spelled : SpellsSent service.base (written_for service.keeps request) (fresh_writing (contents writer)) written
+  pub spelled : SpellsSent service.base (written_for service request) (fresh_writing (contents writer)) written
   pub read : Reads request (fresh_reading (remaining reader)) left came
   pub known : ExchangesKnown request (remaining reader) left.remaining came
 
@@ -104,18 +109,25 @@ pub record IsExchange {I O J : Type 0} (remaining : I → Option (List ℕ))
     (e : Exchange I O) (old new : State J) : Type 0 where
   pub asked : asking (book_of old.book) name ≡ Some (Send e.request)
   pub sent : IsAsked remaining contents service e.request e.reader e.writer (answer_in e.came)
-  pub becomes : Becomes g service.keeps e.request e.came old new
+  pub becomes : Becomes g service e.request e.came old new
 
 -- nothing was sent: the only opening failed, with this error; or memory ran out before any
 abbrev pub IsUnmade : {I O : Type 0} → (opened : List (Opening I O)) → RunFault → Type 0
 IsUnmade opened fault = ((error : Error) × (opened ≡ Err error ∷ []) × (fault ≡ open_fault error))
     ⊎ ((opened ≡ []) × (fault ≡ Memory))
 
+-- this is what the connector learns from an answer
+pub record IsTaught {J : Type 0} (g : Ghosts J) (keeps : Keeps) (request : Request) (answer : Answer)
+    (old new : State J) (result : Result (Option RecordFault) RunFault) : Type 0 where
+  pub learnt : Result Learnt LearnFault
+  pub learns : Learns g keeps request answer learnt old new
+  pub result_is : result ≡ taught learnt
+
 -- this is what came, and the connector learns from it
-pub record IsTaken {J : Type 0} (g : Ghosts J) (keeps : Keeps) (request : Request)
+pub record IsTaken {J : Type 0} (g : Ghosts J) (service : Service) (request : Request)
     (answer : Result Answer ExchangeFault) (old new : State J)
     (result : Result (Option RecordFault) RunFault) : Type 0 where
   pub came : Came
   pub answer_is : answer_in came ≡ answer
-  pub becomes : Becomes g keeps request came old new
+  pub becomes : Becomes g service request came old new
   pub result_is : result ≡ outcome came

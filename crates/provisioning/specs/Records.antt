@@ -1,5 +1,6 @@
 -- The exchanges for one record, and its state after them.
-use Rattle.std.specs.Prelude.{◌≡◌, ◌⊎◌, ◌<◌, ◌≤◌, ◌^◌, ◌-◌, ℕ, false, List, [], ◌∷◌, ◌++◌, length, Option, Some, None, Result, Ok, Err, IsOk}
+use Rattle.std.specs.Prelude.{◌≡◌, ◌⊎◌, ◌<◌, ◌≤◌, ◌^◌, ◌-◌, ℕ, Bool, true, false, List, [], ◌∷◌, ◌++◌, length, Option}
+use Rattle.std.specs.Prelude.{Some, None, Result, Ok, Err, IsOk}
 use Rattle.std.specs.Option.{option_or}
 use Rattle.scim_key.specs.declared.records.RecordName.{RecordName}
 use Rattle.journal_core.specs.declared.journals.Journal.{Ghosts}
@@ -10,7 +11,7 @@ use Rattle.connector_core.specs.State.{State}
 use Rattle.connector_core.specs.declared.asking.Ask.TheVariants as asks
 use Rattle.provisioning.specs.Exchanges.{Exchange, IsExchange, IsUnmade, opening_of, openings_of, outcome}
 use Rattle.provisioning.specs.Openings.{Opening}
-use Rattle.provisioning.specs.Services.{Service}
+use Rattle.provisioning.specs.Services.{Service, is_held_back}
 use Rattle.provisioning.specs.declared.faults.RunFault.{RunFault}
 use Rattle.provisioning.specs.declared.faults.RecordFault.{RecordFault}
 use Rattle.provisioning.specs.declared.faults.RecordFault.TheVariants.{NoSuchRecord}
@@ -57,15 +58,18 @@ Rests book name (Confirmed revision) = (asking book name ≡ Some asks.Nothing)
 Rests book name (Waits member) = asking book name ≡ Some (asks.Waits member)
 Rests book name (Unconfirmed fault) = (asking book name ≡ None) × (fault ≡ Some NoSuchRecord)
 
--- all exchanges were made, and the wanted revision isn't confirmed, or is doubted
-pub record IsSpent (book : Book) (name : RecordName) (count : ℕ) (last : Option RecordFault)
+-- All exchanges were made, or the record is held back after the last one. The wanted revision isn't confirmed, or is
+-- doubted
+pub record IsSpent (is_versioned : Bool) (book : Book) (name : RecordName) (count : ℕ) (last : Option RecordFault)
     (standing : Standing) : Type 0 where
-  pub all : count ≡ most_exchanges
+  pub at_end : (count ≡ most_exchanges) ⊎ (is_held_back is_versioned last ≡ true)
   pub unconfirmed : is_done_at book name ≡ false
   pub last_is : standing ≡ Unconfirmed last
 
-abbrev pub Stands : Book → RecordName → (count : ℕ) → (last : Option RecordFault) → Standing → Type 0
-Stands book name count last standing = Rests book name standing ⊎ IsSpent book name count last standing
+abbrev pub Stands : (is_versioned : Bool) → Book → RecordName → (count : ℕ) → (last : Option RecordFault) → Standing
+    → Type 0
+Stands is_versioned book name count last standing = Rests book name standing
+    ⊎ IsSpent is_versioned book name count last standing
 
 -- ---- a record
 
@@ -78,7 +82,8 @@ pub record IsPushed {I O J : Type 0} (remaining : I → Option (List ℕ)) (cont
   pub opened_are : opened ≡ openings_of exchanges
   pub count : pushed.exchanges ≡ length exchanges
   pub most : length exchanges ≤ most_exchanges
-  pub stands : Stands (book_of new.book) name pushed.exchanges (last_fault exchanges) pushed.standing
+  pub stands : Stands service.is_versioned (book_of new.book) name pushed.exchanges (last_fault exchanges)
+      pushed.standing
 
 -- the next exchange ended the run, or couldn't be made
 abbrev pub Ends : {I O J : Type 0} → (I → Option (List ℕ)) → (O → Option (List ℕ)) → Ghosts J → Service

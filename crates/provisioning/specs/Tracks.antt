@@ -15,12 +15,11 @@ use Rattle.connector_core.specs.Book.{Book}
 use Rattle.connector_core.specs.Maps.{book_of}
 use Rattle.connector_core.specs.State.{State}
 use Rattle.connector_core.specs.declared.asking.Ask.TheVariants.{Send}
-use Rattle.connector_core.specs.declared.keeps.Keeps.{Keeps}
 use Rattle.provisioning.specs.Exchanges.{Becomes, Came, IsUnmade, answer_in, outcome}
 use Rattle.provisioning.specs.Faults.{open_fault}
 use Rattle.provisioning.specs.Openings.{Opening}
 use Rattle.provisioning.specs.Records.{Rests, most_exchanges}
-use Rattle.provisioning.specs.Services.{Service, written_for}
+use Rattle.provisioning.specs.Services.{Service, is_held_back, written_for}
 use Rattle.provisioning.specs.declared.faults.RecordFault.{RecordFault}
 use Rattle.provisioning.specs.declared.faults.RecordFault.TheVariants as faults
 use Rattle.provisioning.specs.declared.faults.RunFault.{RunFault}
@@ -66,15 +65,19 @@ says_busy None = false
 abbrev pub may_wait : Option RecordFault → Account → Bool
 may_wait fault a = says_busy fault && (not a.has_waited && nat_lt a.exchanges most_exchanges)
 
--- all exchanges were made, and the wanted revision isn't confirmed, or is doubted
-pub record IsSpentAt (book : Book) (a : Account) (standing : Standing) : Type 0 where
-  pub all : most_exchanges ≤ a.exchanges
+-- all exchanges were made, or the record is held back
+abbrev pub IsAtEnd : Service → Account → Type 0
+IsAtEnd service a = (most_exchanges ≤ a.exchanges) ⊎ (is_held_back service.is_versioned a.last ≡ true)
+
+-- nothing more is sent, and the wanted revision isn't confirmed, or is doubted
+pub record IsSpentAt (service : Service) (book : Book) (a : Account) (standing : Standing) : Type 0 where
+  pub at_end : IsAtEnd service a
   pub unconfirmed : is_done_at book a.name ≡ false
   pub last_is : standing ≡ Unconfirmed a.last
 
--- there is nothing to ask for, or no exchange is left
-abbrev pub StandsAt : Book → Account → Standing → Type 0
-StandsAt book a standing = Rests book a.name standing ⊎ IsSpentAt book a standing
+-- there is nothing to ask for, or nothing more is sent
+abbrev pub StandsAt : Service → Book → Account → Standing → Type 0
+StandsAt service book a standing = Rests book a.name standing ⊎ IsSpentAt service book a standing
 
 -- ---- a request is sent
 
@@ -86,17 +89,19 @@ pub record IsSetOut {I O : Type 0}
   pub written : Writing
   pub request_is : f.request ≡ request
   pub reader_is : f.reader ≡ stream.0
-  pub starts : Starts (text_of service.base (written_for service.keeps request)) (fresh_writing (contents stream.1))
+  pub starts : Starts (text_of service.base (written_for service request)) (fresh_writing (contents stream.1))
       written f.sent
-  pub spelled : SpellsSent service.base (written_for service.keeps request) (fresh_writing (contents stream.1)) written
+  pub spelled : SpellsSent service.base (written_for service request) (fresh_writing (contents stream.1)) written
 
--- A record with exchanges left: what the connector asks for as this book stands was sent on a new stream
+-- A record with exchanges left, which isn't held back: what the connector asks for as this book stands was sent on a
+-- new stream
 pub record SetsOut {I O : Type 0}
     (contents : O → Option (List ℕ)) (service : Service) (a : Account) (opened : List (Opening I O))
     (book : Book) (later : Account)
     (f : Flight I O) : Type 0 where
   pub stream : I × O
   pub left : a.exchanges < most_exchanges
+  pub free : is_held_back service.is_versioned a.last ≡ false
   pub asked : asking book a.name ≡ Some (Send f.request)
   pub opened_are : opened ≡ Ok stream ∷ []
   pub set_out : IsSetOut contents service f.request stream f
@@ -114,7 +119,8 @@ abbrev pub Begins : {I O : Type 0} → (O → Option (List ℕ)) → Service →
     → Book → Track I O → Type 0
 Begins contents service a opened book (UnderWay later f) = SetsOut contents service a opened book later f
 Begins contents service a opened book (Delayed later) = ⊥
-Begins contents service a opened book (Done later standing) = (opened ≡ []) × (later ≡ a) × StandsAt book a standing
+Begins contents service a opened book (Done later standing) = (opened ≡ []) × (later ≡ a)
+    × StandsAt service book a standing
 
 -- so; or exchanges are left, but the stream wasn't opened, or memory ran out before
 abbrev pub GoesOn : {I O : Type 0} → (O → Option (List ℕ)) → Service → Account → (opened : List (Opening I O))
@@ -140,11 +146,11 @@ IsHeard remaining request reader (Err fault) came = came ≡ Err fault
 
 -- The connector learns from what comes on the stream of the request
 pub record IsLearnt {I O J : Type 0}
-    (remaining : I → Option (List ℕ)) (g : Ghosts J) (keeps : Keeps) (f : Flight I O) (old new : State J)
+    (remaining : I → Option (List ℕ)) (g : Ghosts J) (service : Service) (f : Flight I O) (old new : State J)
     (result : Result (Option RecordFault) RunFault) : Type 0 where
   pub came : Came
   pub heard : IsHeard remaining f.request f.reader f.sent (answer_in came)
-  pub becomes : Becomes g keeps f.request came old new
+  pub becomes : Becomes g service f.request came old new
   pub result_is : result ≡ outcome came
 
 -- ---- a record that was begun
@@ -155,14 +161,14 @@ module _ {I O J : Type 0} (remaining : I → Option (List ℕ))
   pub record Continues (a : Account) (f : Flight I O) (opened : List (Opening I O)) (old new : State J)
       (result : Result (Track I O) RunFault) : Type 0 where
     pub fault : Option RecordFault
-    pub learnt : IsLearnt remaining g service.keeps f old new (Ok fault)
+    pub learnt : IsLearnt remaining g service f old new (Ok fault)
     pub goes_on : GoesOn contents service (faulted fault a) opened (book_of new.book) result
 
   -- its answer, by which the provider is busy, is learnt from; then it waits
   pub record Delays (a : Account) (f : Flight I O) (opened : List (Opening I O)) (old new : State J)
       (result : Result (Track I O) RunFault) : Type 0 where
     pub fault : Option RecordFault
-    pub learnt : IsLearnt remaining g service.keeps f old new (Ok fault)
+    pub learnt : IsLearnt remaining g service f old new (Ok fault)
     pub may : may_wait fault a ≡ true
     pub opened_none : opened ≡ []
     pub result_is : result ≡ Ok (Delayed (put_off (faulted fault a)))
@@ -170,7 +176,7 @@ module _ {I O J : Type 0} (remaining : I → Option (List ℕ))
   -- learning ended the run
   abbrev pub EndsLearning : (f : Flight I O) → (opened : List (Opening I O)) → (old new : State J)
       → (result : Result (Track I O) RunFault) → Type 0
-  EndsLearning f opened old new result = (end : RunFault) × IsLearnt remaining g service.keeps f old new (Err end)
+  EndsLearning f opened old new result = (end : RunFault) × IsLearnt remaining g service f old new (Err end)
       × (opened ≡ []) × (result ≡ Err end)
 
   -- nothing happens
@@ -199,10 +205,10 @@ module _ {I O J : Type 0} (remaining : I → Option (List ℕ))
   StepsWithin turns track opened old new (Err fault) = Advances track opened old new (Err fault)
 
 -- the last of a record: its answer, if one is under way, is learnt from
-abbrev pub Closes : {I O J : Type 0} → (I → Option (List ℕ)) → Ghosts J → Keeps → Track I O → (old new : State J)
+abbrev pub Closes : {I O J : Type 0} → (I → Option (List ℕ)) → Ghosts J → Service → Track I O → (old new : State J)
     → Result (Unit {0}) RunFault → Type 0
-Closes remaining g keeps (UnderWay a f) old new (Ok done) = (fault : Option RecordFault)
-    × IsLearnt remaining g keeps f old new (Ok fault)
-Closes remaining g keeps (UnderWay a f) old new (Err fault) = IsLearnt remaining g keeps f old new (Err fault)
-Closes remaining g keeps (Delayed a) old new result = (new ≡ old) × (result ≡ Ok tt)
-Closes remaining g keeps (Done a standing) old new result = (new ≡ old) × (result ≡ Ok tt)
+Closes remaining g service (UnderWay a f) old new (Ok done) = (fault : Option RecordFault)
+    × IsLearnt remaining g service f old new (Ok fault)
+Closes remaining g service (UnderWay a f) old new (Err fault) = IsLearnt remaining g service f old new (Err fault)
+Closes remaining g service (Delayed a) old new result = (new ≡ old) × (result ≡ Ok tt)
+Closes remaining g service (Done a standing) old new result = (new ≡ old) × (result ≡ Ok tt)

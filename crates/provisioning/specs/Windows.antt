@@ -5,7 +5,6 @@ use Rattle.journal_core.specs.declared.journals.Journal.{Ghosts}
 use Rattle.connector_core.specs.Book.{Book}
 use Rattle.connector_core.specs.Maps.{book_of}
 use Rattle.connector_core.specs.State.{State}
-use Rattle.connector_core.specs.declared.keeps.Keeps.{Keeps}
 use Rattle.provisioning.specs.Exchanges.{IsUnmade}
 use Rattle.provisioning.specs.Openings.{Opening}
 use Rattle.provisioning.specs.Runs.{Done, IsUntold, NeverGivesUp, Tells, streak_of, tally_of}
@@ -65,12 +64,12 @@ abbrev pub at_start : {I O J : Type 0} → List RecordName → State J → Scene
 at_start names state = record { waiting = names; tracks = []; state = state }
 
 -- each answer that is under way is learnt from, one after another
-abbrev pub LooksThrough : {I O J : Type 0} → (I → Option (List ℕ)) → Ghosts J → Keeps → List (Track I O)
+abbrev pub LooksThrough : {I O J : Type 0} → (I → Option (List ℕ)) → Ghosts J → Service → List (Track I O)
     → (old new : State J) → Type 0
-LooksThrough remaining g keeps [] old new = new ≡ old
-LooksThrough {J = J} remaining g keeps (track ∷ tracks) old new =
-    (result : Result (Unit {0}) RunFault) × (between : State J) × Closes remaining g keeps track old between result
-    × LooksThrough remaining g keeps tracks between new
+LooksThrough remaining g service [] old new = new ≡ old
+LooksThrough {J = J} remaining g service (track ∷ tracks) old new =
+    (result : Result (Unit {0}) RunFault) × (between : State J) × Closes remaining g service track old between result
+    × LooksThrough remaining g service tracks between new
 
 -- ---- how many records
 
@@ -106,7 +105,7 @@ module _ {I O J : Type 0} (remaining : I → Option (List ℕ))
     pub others : List (Track I O)
     pub before : IsWith (phases.UnderWay account flight) others old.tracks
     pub after : IsWith track others new.tracks
-    pub learnt : IsLearnt remaining g service.keeps flight old.state new.state (Ok fault)
+    pub learnt : IsLearnt remaining g service flight old.state new.state (Ok fault)
     pub begins : Begins contents service (faulted fault account) opened (book_of new.state.book) track
     pub told_none : told ≡ []
     pub waiting : new.waiting ≡ old.waiting
@@ -119,7 +118,7 @@ module _ {I O J : Type 0} (remaining : I → Option (List ℕ))
     pub others : List (Track I O)
     pub before : IsWith (phases.UnderWay account flight) others old.tracks
     pub after : IsWith (phases.Delayed (put_off (faulted fault account))) others new.tracks
-    pub learnt : IsLearnt remaining g service.keeps flight old.state new.state (Ok fault)
+    pub learnt : IsLearnt remaining g service flight old.state new.state (Ok fault)
     pub may : may_wait fault account ≡ true
     pub opened_none : opened ≡ []
     pub told_none : told ≡ []
@@ -246,7 +245,7 @@ module _ {I O J : Type 0} (remaining : I → Option (List ℕ))
   abbrev pub Leaves : (opened : List (Opening I O)) → (told : List Done) → (old new : Scene I O J) → RunFault → Type 0
   Leaves opened told old new fault =
       (front : List (Track I O)) × (between : State J) × Stops opened told old (front ++ new.tracks) between fault
-      × LooksThrough remaining g service.keeps front between new.state
+      × LooksThrough remaining g service front between new.state
 
   -- the first record is done
   pub record IsFinished (opened : List (Opening I O)) (first : Track I O) (old new : Scene I O J)
@@ -300,7 +299,7 @@ module _ {I O J : Type 0} (remaining : I → Option (List ℕ))
     pub rest : List (Track I O)
     pub between : State J
     pub breaks : Breaks limit opened done (at_start names old) rest between fault
-    pub looked : LooksThrough remaining g service.keeps rest between new
+    pub looked : LooksThrough remaining g service rest between new
 
   abbrev pub PushesAbreast : (limit : ℕ) → (names : List RecordName) → (opened : List (Opening I O))
       → (old new : State J) → (before after : Option (List Done)) → Result Tally RunFault → Type 0
@@ -324,8 +323,8 @@ BeginsNext contents service opened waiting later book (Err fault) = (name : Reco
     × (waiting ≡ name ∷ later) × IsUnmade opened fault
 
 -- a record is given back; or after a fault it was closed
-abbrev pub KeepsTrack : {I O J : Type 0} → (I → Option (List ℕ)) → Ghosts J → Keeps → Track I O
+abbrev pub KeepsTrack : {I O J : Type 0} → (I → Option (List ℕ)) → Ghosts J → Service → Track I O
     → (beside : Result (Unit {0}) RunFault) → (old new : State J) → Result (Track I O) RunFault → Type 0
-KeepsTrack remaining g keeps track (Ok done) old new result = (new ≡ old) × (result ≡ Ok track)
-KeepsTrack remaining g keeps track (Err fault) old new result = (closed : Result (Unit {0}) RunFault)
-    × Closes remaining g keeps track old new closed × (result ≡ Err fault)
+KeepsTrack remaining g service track (Ok done) old new result = (new ≡ old) × (result ≡ Ok track)
+KeepsTrack remaining g service track (Err fault) old new result = (closed : Result (Unit {0}) RunFault)
+    × Closes remaining g service track old new closed × (result ≡ Err fault)

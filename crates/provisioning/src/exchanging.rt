@@ -1,11 +1,12 @@
 //! What comes of an exchange.
 ghost use Rattle.std.specs.Prelude.{Ok};
-ghost use Rattle.provisioning.specs.Exchanges.{IsTaken};
+ghost use Rattle.provisioning.specs.Exchanges.{IsTaken, IsTaught};
 
 use crate::dialing::Dial;
 use crate::explaining::Failed;
 use crate::faults::{RecordFault, RunFault, unanswered, unlearnt};
 use crate::recording::Heard;
+use crate::services::{ServiceProvider, take_from};
 use connector_core::{Connector, Keeps};
 use journal_core::Journal;
 use scim_client::ExchangeFault;
@@ -49,29 +50,56 @@ fn answer_in(came: &Result<Answer, ExchangeFault>) -> Option<&Answer> {
     }
 }
 
-/// Takes the result of an exchange with a service of this kind.
+/// Takes the result of an exchange with a service. It gives the answer back as it was taken.
 pub(crate) fn take<J: Journal>(
+    alloc: Global,
+    service: &ServiceProvider<'_>,
     connector: &mut Connector<J>,
-    keeps: Keeps,
     request: &Request,
-    came: &Result<Answer, ExchangeFault>,
-) -> Result<Option<RecordFault>, RunFault>
-    ensures { IsTaken J.Journal keeps request.now came.now connector.old connector.new result }
+    came: Result<Answer, ExchangeFault>,
+) -> (
+    Result<Answer, ExchangeFault>,
+    Result<Option<RecordFault>, RunFault>,
+)
+    ensures { IsTaken J.Journal service.now request.now came connector.old connector.new result.1 }
 {
     match came {
-        Ok(answer) => learn(connector, keeps, request, answer),
-        Err(fault) => unanswered(*fault),
+        Ok(answer) => learn(alloc, service, connector, request, answer),
+        Err(fault) => (Err(fault), unanswered(fault)),
     }
 }
 
-/// Learns from an answer.
+/// Learns from an answer as it is taken from a service.
 fn learn<J: Journal>(
+    alloc: Global,
+    service: &ServiceProvider<'_>,
     connector: &mut Connector<J>,
+    request: &Request,
+    answer: Answer,
+) -> (
+    Result<Answer, ExchangeFault>,
+    Result<Option<RecordFault>, RunFault>,
+)
+    ensures { IsTaken J.Journal service.now request.now (Ok answer)
+        connector.old connector.new result.1 }
+{
+    match take_from(alloc, service, answer) {
+        Ok(answer) => {
+            let taken = teach(service.keeps, connector, request, &answer);
+            (Ok(answer), taken)
+        }
+        Err(_) => (Err(ExchangeFault::OutOfMemory), Err(RunFault::Memory)),
+    }
+}
+
+/// Teaches the connector an answer.
+fn teach<J: Journal>(
     keeps: Keeps,
+    connector: &mut Connector<J>,
     request: &Request,
     answer: &Answer,
 ) -> Result<Option<RecordFault>, RunFault>
-    ensures { IsTaken J.Journal keeps request.now (Ok answer.now) connector.old connector.new result }
+    ensures { IsTaught J.Journal keeps request.now answer.now connector.old connector.new result }
 {
     match connector.learn(keeps, request, answer) {
         Ok(_) => Ok(None),

@@ -62,7 +62,7 @@ pub use planning::{Plan, plan_push};
 pub use pushing::Tally;
 pub use recording::{Heard, Recording};
 pub use records::{Pushed, Standing};
-pub use services::ServiceProvider;
+pub use services::{ProviderKeeps, ServiceProvider};
 pub use sockets::{CONNECTION_SECONDS, Remote};
 pub use sources::{Source, Sources, UnreadFile, label, read_source, read_sources};
 pub use streaks::{Obstacle, Streak};

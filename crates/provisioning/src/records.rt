@@ -1,4 +1,5 @@
 //! The state of a record after its exchanges.
+ghost use Rattle.std.specs.Prelude.{true};
 ghost use Rattle.connector_core.specs.Maps.{book_of};
 ghost use Rattle.provisioning.specs.Records.{Stands, most_exchanges};
 
@@ -50,7 +51,7 @@ pub(crate) fn standing_after<J: Journal>(
     name: &RecordName,
     last: Option<RecordFault>,
 ) -> Standing
-    ensures { Stands (book_of connector.now.book) name.now most_exchanges last result }
+    ensures { Stands true (book_of connector.now.book) name.now most_exchanges last result }
 {
     if connector.is_done(name) {
         Standing::Confirmed(connector.confirmed(name))

@@ -1,17 +1,18 @@
 //! A record while several are under way.
-ghost use Rattle.std.specs.Prelude.{◌≡◌, ◌∷◌, ◌<◌, ◌≤◌, []};
+ghost use Rattle.std.specs.Prelude.{◌≡◌, ◌∷◌, ◌<◌, ◌≤◌, [], false, IsFalse, IsTrue};
 ghost use Rattle.connector_core.specs.Maps.{book_of};
 ghost use Rattle.provisioning.specs.Lists.{Adds};
 ghost use Rattle.provisioning.specs.Openings.{Opening, Opens};
 ghost use Rattle.provisioning.specs.Records.{most_exchanges};
-ghost use Rattle.provisioning.specs.Tracks.{Advances, Closes, ComesOfOpening, GoesOn, IsHeard, IsLearnt, IsSetOut, StandsAt, Steps, counted, faulted, fresh, may_wait, put_off, says_busy};
+ghost use Rattle.provisioning.specs.Services.{is_held_back};
+ghost use Rattle.provisioning.specs.Tracks.{Advances, Closes, ComesOfOpening, GoesOn, IsAtEnd, IsHeard, IsLearnt, IsSetOut, StandsAt, Steps, counted, faulted, fresh, may_wait, put_off, says_busy};
 
 use crate::dialing::Dial;
 use crate::exchanging::{explain, take};
 use crate::faults::{RecordFault, RunFault, open_fault};
 use crate::recording::{Heard, Recording};
 use crate::records::{Standing, standing_after};
-use crate::services::{ServiceProvider, send_to};
+use crate::services::{ServiceProvider, is_held_back, send_to};
 use connector_core::{Ask, AskFault, Connector, MOST_EXCHANGES};
 use http_text::{Input, Output};
 use journal_core::Journal;
@@ -77,18 +78,32 @@ pub(crate) fn go_on<J: Journal, D: Dial>(
     ensures { Opens (D.opened dial.old) (D.opened dial.new) (λ opened. GoesOn
         D.Writer.contents service.now account opened (book_of connector.now.book) result) }
 {
-    if account.exchanges < MOST_EXCHANGES {
-        ask(alloc, service, connector, dial, account)
-    } else {
-        let standing = spent(connector, &account);
+    if is_at_end(service, &account) {
+        let standing = spent(service, connector, &account);
         Ok(Track::Done(account, standing))
+    } else {
+        ask(alloc, service, connector, dial, account)
     }
 }
 
-/// The state of a record that has no exchanges left.
-fn spent<J: Journal>(connector: &Connector<J>, account: &Account) -> Standing
-    requires { most_exchanges ≤ account.now.exchanges }
-    ensures { StandsAt (book_of connector.now.book) account.now result }
+/// Whether all exchanges of a record were made, or it is held back.
+fn is_at_end(service: &ServiceProvider<'_>, account: &Account) -> bool
+    ensures end { IsTrue result → IsAtEnd service.now account.now }
+    ensures left { IsFalse result → account.now.exchanges < most_exchanges }
+    ensures free { IsFalse result
+        → is_held_back service.now.is_versioned account.now.last ≡ false }
+{
+    account.exchanges >= MOST_EXCHANGES || is_held_back(service, account.last)
+}
+
+/// The state of a record for which nothing more is sent.
+fn spent<J: Journal>(
+    service: &ServiceProvider<'_>,
+    connector: &Connector<J>,
+    account: &Account,
+) -> Standing
+    requires { IsAtEnd service.now account.now }
+    ensures { StandsAt service.now (book_of connector.now.book) account.now result }
 {
     standing_after(connector, &account.name, account.last)
 }
@@ -101,7 +116,8 @@ fn ask<J: Journal, D: Dial>(
     dial: &mut D,
     account: Account,
 ) -> Result<Track<D::Reader, D::Writer>, RunFault>
-    requires { account.exchanges < most_exchanges }
+    requires left { account.exchanges < most_exchanges }
+    requires free { is_held_back service.now.is_versioned account.last ≡ false }
     ensures { Opens (D.opened dial.old) (D.opened dial.new) (λ opened. GoesOn
         D.Writer.contents service.now account opened (book_of connector.now.book) result) }
 {
@@ -190,7 +206,7 @@ fn learn_from<J: Journal, D: Dial>(
     name: &RecordName,
     flight: Flight<D::Reader, D::Writer>,
 ) -> (Result<Option<RecordFault>, RunFault>, Heard)
-    ensures { IsLearnt D.Reader.remaining J.Journal service.now.keeps flight
+    ensures { IsLearnt D.Reader.remaining J.Journal service.now flight
         connector.old connector.new result.0 }
 {
     let Flight {
@@ -202,8 +218,8 @@ fn learn_from<J: Journal, D: Dial>(
     let (came, recording) = hear(alloc, &request, reader, sent);
     let Recording { reader, heard } = recording;
     dial.end(reader, writer);
+    let (came, taken) = take(alloc, service, connector, &request, came);
     let keeps = service.keeps;
-    let taken = take(connector, keeps, &request, &came);
     explain(
         alloc, keeps, connector, dial, name, &request, &heard, &came, taken,
     );
@@ -342,7 +358,7 @@ pub(crate) fn close<J: Journal, D: Dial>(
     dial: &D,
     track: Track<D::Reader, D::Writer>,
 ) -> Result<(), RunFault>
-    ensures { Closes D.Reader.remaining J.Journal service.now.keeps track
+    ensures { Closes D.Reader.remaining J.Journal service.now track
         connector.old connector.new result }
 {
     match track {

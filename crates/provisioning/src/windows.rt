@@ -232,7 +232,7 @@ fn keep<J: Journal, D: Dial>(
     first: Track<D::Reader, D::Writer>,
     beside: Result<(), RunFault>,
 ) -> Result<Track<D::Reader, D::Writer>, RunFault>
-    ensures { KeepsTrack D.Reader.remaining J.Journal service.now.keeps first beside
+    ensures { KeepsTrack D.Reader.remaining J.Journal service.now first beside
         connector.old connector.new result }
 {
     match beside {
@@ -334,7 +334,7 @@ fn look_through<J: Journal, D: Dial>(
     dial: &D,
     tracks: &mut VecDeque<Track<D::Reader, D::Writer>>,
 )
-    ensures { LooksThrough D.Reader.remaining J.Journal service.now.keeps tracks.old.items
+    ensures { LooksThrough D.Reader.remaining J.Journal service.now tracks.old.items
         connector.old connector.new }
 {
     while let Some(track) = tracks.pop_front() {

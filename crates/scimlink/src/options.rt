@@ -145,7 +145,9 @@ const PROVIDER_KEEPS: OptionText = OptionText {
     name: "provider-keeps",
     value: Value::Text("WHAT"),
     rule: Rule::Optional,
-    help: Help::Text("what the provider keeps of what it is sent: revisions, or versions alone"),
+    help: Help::Text(
+        "what the provider keeps of what it is sent: revisions, versions alone, or nothing",
+    ),
 };
 
 static COMMANDS: &[CommandText] = &[
@@ -277,6 +279,14 @@ static COMMANDS: &[CommandText] = &[
             OptionText {
                 rule: Rule::Without("plan"),
                 ..PROVIDER_KEEPS
+            },
+            OptionText {
+                name: "settle-time",
+                value: Value::Count,
+                rule: Rule::Without("plan"),
+                help: Help::Text(
+                    "for how many seconds a request may be under way, 60 by default, where nothing is kept",
+                ),
             },
         ],
     },

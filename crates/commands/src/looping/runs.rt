@@ -165,6 +165,7 @@ fn carry_to<
     let keeping = ServiceProvider {
         service,
         keeps: Keeps::Revisions,
+        is_versioned: true,
     };
     carry(
         alloc,

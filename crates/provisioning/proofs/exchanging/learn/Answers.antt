@@ -1,19 +1,14 @@
-use Rattle.std.proofs.Common.{Ok, Err, refl}
-use Rattle.provisioning.specs.Exchanges.{answered}
+use Rattle.std.proofs.Common.{subst}
+use Rattle.provisioning.proofs.ServiceLemmas.{takes_answer, takes_none}
+use Rattle.provisioning.specs.Exchanges.{IsTaught}
+use Rattle.provisioning.specs.Services.{Service}
 use Rattle.provisioning.proofs.exchanging.learn.Goals as goal
 
 pub returns-in-Ok : goal.returns-in-Ok
-returns-in-Ok g c = let e = c.in-Ok.ensures in record {
-  came = answered c.args.answer.now (Ok c.in-Ok.field-0);
-  answer_is = refl;
-  becomes = record { learnt = e.learnt; ok = e.ok; err = e.err; names = e.names; journal = e.journal; quiet = e.quiet; leaves = e.leaves };
-  result_is = refl;
-}
+returns-in-Ok g c =
+    let taught = subst (λ (s : Service). IsTaught g.J.Journal s.keeps c.args.request.now c.in-Ok.answer c.args.connector.now c.teach-taken.new.connector c.teach-taken.result)
+    c.service.view_is c.teach-taken.ensures in
+    takes_answer g.J.Journal c.args.service.now c.args.request.now c.args.answer c.in-Ok.answer c.args.connector.now c.teach-taken.new.connector c.teach-taken.result c.in-Ok.ensures taught
 
 pub returns-in-Err : goal.returns-in-Err
-returns-in-Err g c = let e = c.in-Err.ensures in record {
-  came = answered c.args.answer.now (Err c.in-Err.fault);
-  answer_is = refl;
-  becomes = record { learnt = e.learnt; ok = e.ok; err = e.err; names = e.names; journal = e.journal; quiet = e.quiet; leaves = e.leaves };
-  result_is = c.unlearnt.ensures;
-}
+returns-in-Err g c = takes_none g.J.Journal c.args.service.now c.args.request.now c.args.answer c.args.connector.now

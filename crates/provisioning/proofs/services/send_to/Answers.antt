@@ -1,25 +1,21 @@
-use Rattle.std.proofs.Common.{subst, sym}
+use Rattle.std.proofs.Common.{ap, sym, subst, ◌∙◌}
 use Rattle.scim_client.specs.Exchanges.{SpellsSent}
-use Rattle.connector_core.specs.declared.keeps.Keeps.{Keeps}
-use Rattle.provisioning.specs.Services.{Service, written_for}
+use Rattle.scim_message.specs.declared.messages.Request.{Request}
+use Rattle.provisioning.specs.Services.{Service, kept_for}
+use Rattle.provisioning.proofs.ServiceLemmas.{written_as_kept, written_bare}
 use Rattle.provisioning.proofs.services.send_to.Goals as goal
 
-pub returns-in-Revisions-clause-spelled : goal.returns-in-Revisions-clause-spelled
-returns-in-Revisions-clause-spelled g c =
-    let base = c.service.inside.service.now in
-    let request = c.args.request in
-    let old = c.args.writer.now in
-    let new = c.send_request-sent.new.writer in
-    subst (λ (s : Service). SpellsSent s.base (written_for s.keeps request) old new) c.service.view_is
-    (subst (λ (k : Keeps). SpellsSent base (written_for k request) old new) (sym c.in-Revisions.is)
-    c.send_request-sent.ensures.spelled)
+pub returns-then-service-clause-spelled : goal.returns-then-service-clause-spelled
+returns-then-service-clause-spelled g c =
+    let service = c.args.service.now in
+    subst (λ (r : Request). SpellsSent service.base r c.args.writer.now c.send_kept.new.writer)
+    (written_as_kept service c.args.request (sym (ap (λ (s : Service). s.is_versioned) c.service.view_is) ∙ c.if-service.true))
+    c.send_kept.ensures.spelled
 
-pub returns-in-Versions-clause-spelled : goal.returns-in-Versions-clause-spelled
-returns-in-Versions-clause-spelled g c =
-    let base = c.service.inside.service.now in
-    let request = c.args.request in
-    let old = c.args.writer.now in
-    let new = c.send_without.new.writer in
-    subst (λ (s : Service). SpellsSent s.base (written_for s.keeps request) old new) c.service.view_is
-    (subst (λ (k : Keeps). SpellsSent base (written_for k request) old new) (sym c.in-Versions.is)
-    c.send_without.ensures.spelled)
+pub returns-clause-spelled : goal.returns-clause-spelled
+returns-clause-spelled g c =
+    let service = c.args.service.now in
+    subst (λ (r : Request). SpellsSent service.base r c.args.writer.now c.send_kept-bare.new.writer)
+    (ap (kept_for service.keeps) c.with_conditions-bare.ensures.under
+    ∙ written_bare service c.args.request (sym (ap (λ (s : Service). s.is_versioned) c.service.view_is) ∙ c.if-service.false))
+    c.send_kept-bare.ensures.spelled

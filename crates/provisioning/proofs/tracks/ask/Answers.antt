@@ -25,8 +25,8 @@ returns-in-Ok-Send g c =
       made.0 ∷ [],
       made.1,
       went_on g.D.Writer.Write.contents c.args.service.now c.args.account book c.in-Ok-Send.request made.0 c.set_out.result
-          c.requires (was_asked (asking book c.args.account.name) (Send c.in-Ok-Send.request) said) made.2,
+          c.requires.left c.requires.free (was_asked (asking book c.args.account.name) (Send c.in-Ok-Send.request) said) made.2,
     )
 
 pub returns-in-Err-Memory : goal.returns-in-Err-Memory
-returns-in-Err-Memory g c = ([], adds_none (g.D.Dial.opened c.args.dial.now), (c.requires, inr (refl, refl)))
+returns-in-Err-Memory g c = ([], adds_none (g.D.Dial.opened c.args.dial.now), (c.requires.left, inr (refl, refl)))

@@ -8,7 +8,7 @@ use Rattle.provisioning.proofs.tracks.send_on.Goals as goal
 pub returns : goal.returns
 returns g c =
     let service = c.args.service.now in
-    let written = written_for service.keeps c.args.request in
+    let written = written_for service c.args.request in
     let sent = c.send_to-request in record {
       written = sent.new.writer;
       request_is = sent.ensures.same;

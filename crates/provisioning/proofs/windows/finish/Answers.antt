@@ -75,6 +75,6 @@ loop-first-preserved g c =
 pub loop-first-smaller : goal.loop-first-smaller
 loop-first-smaller g c =
     fewer_left g.D.Reader.Read.remaining g.D.Writer.Write.contents g.J.Journal c.args.service.now c.loop-first.turns c.in_ok-track.left c.loop-first.first c.in_ok-first.first c.in_ok-track.ensures.0 c.keep.new.connector c.advance_first.new.connector c.in_ok-track.track c.in_ok-first-2.first
-    (kept_is g.D.Reader.Read.remaining g.J.Journal c.args.service.now.keeps c.loop-first.first c.in_ok-first.first c.fill-filled.result c.loop-first.connector c.keep.new.connector c.in_ok-first.ensures)
-    (kept_is g.D.Reader.Read.remaining g.J.Journal c.args.service.now.keeps c.in_ok-track.track c.in_ok-first-2.first c.advance_others-advanced.result c.advance_others-advanced.new.connector c.keep-in-loop-first.new.connector c.in_ok-first-2.ensures)
+    (kept_is g.D.Reader.Read.remaining g.J.Journal c.args.service.now c.loop-first.first c.in_ok-first.first c.fill-filled.result c.loop-first.connector c.keep.new.connector c.in_ok-first.ensures)
+    (kept_is g.D.Reader.Read.remaining g.J.Journal c.args.service.now c.in_ok-track.track c.in_ok-first-2.first c.advance_others-advanced.result c.advance_others-advanced.new.connector c.keep-in-loop-first.new.connector c.in_ok-first-2.ensures)
     c.in_default.not-Done c.in_ok-track.ensures.2

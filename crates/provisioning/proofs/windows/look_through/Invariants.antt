@@ -6,7 +6,7 @@ use Rattle.provisioning.proofs.windows.look_through.Given as goal
 -- these were looked through, and the others are left
 abbrev pub invariant-loop-track : goal.invariant-loop-track
 invariant-loop-track g l = (front : List (Track g.row.D-Reader.Denot g.row.D-Writer.Denot)) × (l.initial.tracks.items ≡ front ++ l.tracks.items)
-    × LooksThrough g.D.Reader.Read.remaining g.J.Journal l.service.keeps front l.initial.connector l.connector
+    × LooksThrough g.D.Reader.Read.remaining g.J.Journal l.service front l.initial.connector l.connector
 
 abbrev pub decreases-loop-track : goal.decreases-loop-track
 decreases-loop-track g l = deque_len l.tracks
