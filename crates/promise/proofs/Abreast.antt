@@ -22,9 +22,9 @@ use Rattle.provisioning.specs.declared.tracks.Account.{Account}
 use Rattle.provisioning.specs.declared.tracks.Track.{Track}
 use Rattle.provisioning.specs.declared.tracks.Track.TheVariants.{UnderWay, Delayed, Done as IsDone}
 use Rattle.provisioning.specs.Services.{Service, keeping_at}
-use Rattle.promise.specs.Abreast.{AbreastDoes, IsPushAbreast}
-use Rattle.promise.proofs.Bags.{AreApart, Holds, all_front, all_mapped, apart_all, apart_one, holds_between, holds_longer, holds_mapped, holds_of}
-use Rattle.promise.proofs.Flights.{Begun, Makes, SetOut, begun, heard, makes_done, makes_end, makes_in, makes_out, makes_skip, makes_waits, makes_without, put_in, set_out, take_out}
+use Rattle.promise.specs.Moves.{IsPush, PushDoes}
+use Rattle.promise.proofs.Bags.{AreApart, Holds, all_front, all_mapped, apart_all, apart_one, holds_at, holds_longer, holds_mapped, holds_of}
+use Rattle.promise.proofs.Flights.{Begun, Makes, SetOut, begun, heard, makes_end, makes_in, makes_out, makes_skip, makes_still, makes_without, put_in, set_out, take_out}
 use Rattle.promise.proofs.Names.{apart_back, apart_front, keys_apart, parted}
 
 -- ---- the names of the records that aren't reported
@@ -88,10 +88,22 @@ module _ {J I O : Type 0} (P Q : Type 0) (h : Journals J) (received : I → Opti
 
   -- ---- one move
 
+  -- a track of a record takes the place of another
+  swapped : (x y : Track I O) (others : List (Track I O)) (opened : List (Opening I O)) (old new : Scene I O J) → IsWith x others old.tracks → IsWith y others new.tracks → name_of y ≡ name_of x → new.waiting ≡ old.waiting
+      → (its : Sets x → Sets y) → From opened new → (bs : List Known) → tracks_of bs ≡ old.tracks → AreApart (names_in old)
+      → (set : Sets x) × (cs : List Known) × Holds (x, set) cs bs × AllByRecursion (λ (b : Known). name_of b.0 ≢ name_of x) cs × Ends opened ((y, its set) ∷ cs) new.state.book
+  swapped x y others opened old new before after named same its from bs are apart =
+      let out = take_out Sets bs others x (subst (λ (l : List (Track I O)). Holds x others l) (sym are) (holds_of x others old.tracks before)) in
+      let away = leaves_apart x others old.tracks old.waiting before apart in
+      let into = put_in Sets out.1 others new.tracks y (its out.0) out.2 (holds_of y others new.tracks after) in
+      let later = subst (λ (l : List RecordName). AllByRecursion (λ n. n ≢ name_of x) (names_of others l) × AreApart (names_of others l)) (sym same) away in
+      let ends = from into.0 into.1 (comes_apart (name_of x) y others new.tracks new.waiting after named later.0 later.1) in
+      (out.0, out.1, out.3, all_away (name_of x) out.1 others old.waiting out.2 away.0, makes_out P Q h received posted base last (y, its out.0) out.1 into.0 opened new.state.book into.2 ends)
+
   begun_more : (first opened : List (Opening I O)) (told : List Done) (old new : Scene I O J) → IsBegun received posted h (keeping_at base) window first told old new → From opened new → From (first ++ opened) old
   begun_more first opened told old new b from bs are apart =
       let so : AreApart (map name_of old.tracks ++ b.name ∷ new.waiting) = subst (λ (l : List RecordName). AreApart (map name_of old.tracks ++ l)) b.waiting apart in
-      let away = apart_one b.name (names_of old.tracks new.waiting) (map name_of old.tracks ++ b.name ∷ new.waiting) (holds_between b.name (map name_of old.tracks) new.waiting) so in
+      let away = apart_one b.name (names_of old.tracks new.waiting) (map name_of old.tracks ++ b.name ∷ new.waiting) (holds_at b.name (map name_of old.tracks) new.waiting) so in
       let named : name_of b.track ≡ b.name = begun_name posted (keeping_at base) (fresh b.name) first old.state.book b.track b.begins in
       let set = set_out P Q h received posted base last (fresh b.name) first old.state.book b.track b.begins in
       let into = put_in Sets bs old.tracks new.tracks b.track set are (holds_of b.track old.tracks new.tracks b.tracks) in
@@ -101,46 +113,29 @@ module _ {J I O : Type 0} (P Q : Type 0) (h : Journals J) (received : I → Opti
 
   continued_more : (first opened : List (Opening I O)) (told : List Done) (old new : Scene I O J) → IsContinued received posted h (keeping_at base) window first told old new → From opened new → From (first ++ opened) old
   continued_more first opened told old new c from bs are apart =
-      let out = take_out Sets bs c.others (UnderWay c.account c.flight) (subst (λ (l : List (Track I O)). Holds (UnderWay c.account c.flight) c.others l) (sym are) (holds_of (UnderWay c.account c.flight) c.others old.tracks c.before)) in
-      let away = leaves_apart (UnderWay c.account c.flight) c.others old.tracks old.waiting c.before apart in
-      let named : name_of c.track ≡ c.account.name = begun_name posted (keeping_at base) (faulted c.fault c.account) first new.state.book c.track c.begins in
-      let set = set_out P Q h received posted base last (faulted c.fault c.account) first new.state.book c.track c.begins in
-      let into = put_in Sets out.1 c.others new.tracks c.track set out.2 (holds_of c.track c.others new.tracks c.after) in
-      let later = subst (λ (l : List RecordName). AllByRecursion (λ n. n ≢ c.account.name) (names_of c.others l) × AreApart (names_of c.others l)) (sym c.waiting) away in
-      let ends = from into.0 into.1 (comes_apart c.account.name c.track c.others new.tracks new.waiting c.after named later.0 later.1) in
-      makes_in P Q h received posted base last (UnderWay c.account c.flight, out.0) out.1 bs (first ++ opened) old.state.book out.3
-      (heard P Q h received posted base last c.account c.flight out.0 out.1 (first ++ opened) old.state new.state (Ok c.fault) c.learnt
-      (begun P Q h received posted base last (faulted c.fault c.account) first opened c.track new.state.book c.begins out.1 (all_away c.account.name out.1 c.others old.waiting out.2 away.0)
-      (makes_out P Q h received posted base last (c.track, set) out.1 into.0 opened new.state.book into.2 ends)))
+      let a = faulted c.fault c.account in
+      let named : name_of c.track ≡ c.account.name = begun_name posted (keeping_at base) a first new.state.book c.track c.begins in
+      let s = swapped (UnderWay c.account c.flight) c.track c.others opened old new c.before c.after named c.waiting (λ set. set_out P Q h received posted base last a first new.state.book c.track c.begins) from bs are apart in
+      makes_in P Q h received posted base last (UnderWay c.account c.flight, s.0) s.1 bs (first ++ opened) old.state.book s.2
+      (heard P Q h received posted base last c.account c.flight s.0 s.1 (first ++ opened) old.state new.state (Ok c.fault) c.learnt
+      (begun P Q h received posted base last a first opened c.track new.state.book c.begins s.1 s.3 s.4))
 
   delayed_more : (first opened : List (Opening I O)) (told : List Done) (old new : Scene I O J) → IsDelayed received posted h (keeping_at base) window first told old new → From opened new → From (first ++ opened) old
   delayed_more first opened told old new d from bs are apart =
-      let later = Delayed (put_off (faulted d.fault d.account)) in
-      let out = take_out Sets bs d.others (UnderWay d.account d.flight) (subst (λ (l : List (Track I O)). Holds (UnderWay d.account d.flight) d.others l) (sym are) (holds_of (UnderWay d.account d.flight) d.others old.tracks d.before)) in
-      let away = leaves_apart (UnderWay d.account d.flight) d.others old.tracks old.waiting d.before apart in
-      let into = put_in Sets out.1 d.others new.tracks later tt out.2 (holds_of later d.others new.tracks d.after) in
-      let rest = subst (λ (l : List RecordName). AllByRecursion (λ n. n ≢ d.account.name) (names_of d.others l) × AreApart (names_of d.others l)) (sym d.waiting) away in
-      let ends = from into.0 into.1 (comes_apart d.account.name later d.others new.tracks new.waiting d.after refl rest.0 rest.1) in
-      makes_in P Q h received posted base last (UnderWay d.account d.flight, out.0) out.1 bs (first ++ opened) old.state.book out.3
-      (heard P Q h received posted base last d.account d.flight out.0 out.1 (first ++ opened) old.state new.state (Ok d.fault) d.learnt
-      (makes_skip P Q h received posted base last first opened out.1 new.state.book
-      (makes_without P Q h received posted base last (put_off (faulted d.fault d.account)) tt out.1 opened new.state.book
-      (makes_out P Q h received posted base last (later, tt) out.1 into.0 opened new.state.book into.2 ends))))
+      let a = put_off (faulted d.fault d.account) in
+      let s = swapped (UnderWay d.account d.flight) (Delayed a) d.others opened old new d.before d.after refl d.waiting (λ set. tt) from bs are apart in
+      makes_in P Q h received posted base last (UnderWay d.account d.flight, s.0) s.1 bs (first ++ opened) old.state.book s.2
+      (heard P Q h received posted base last d.account d.flight s.0 s.1 (first ++ opened) old.state new.state (Ok d.fault) d.learnt
+      (makes_skip P Q h received posted base last first opened s.1 new.state.book (makes_without P Q h received posted base last a tt s.1 opened new.state.book s.4)))
 
   resumed_more : (first opened : List (Opening I O)) (told : List Done) (old new : Scene I O J) → IsResumed received posted h (keeping_at base) window first told old new → From opened new → From (first ++ opened) old
   resumed_more first opened told old new r from bs are apart =
-      let waits = Delayed r.account in
-      let out = take_out Sets bs r.others waits (subst (λ (l : List (Track I O)). Holds waits r.others l) (sym are) (holds_of waits r.others old.tracks r.before)) in
-      let away = leaves_apart waits r.others old.tracks old.waiting r.before apart in
       let named : name_of r.track ≡ r.account.name = begun_name posted (keeping_at base) r.account first old.state.book r.track r.begins in
       let set = set_out P Q h received posted base last r.account first old.state.book r.track r.begins in
-      let into = put_in Sets out.1 r.others new.tracks r.track set out.2 (holds_of r.track r.others new.tracks r.after) in
-      let later = subst (λ (l : List RecordName). AllByRecursion (λ n. n ≢ r.account.name) (names_of r.others l) × AreApart (names_of r.others l)) (sym r.waiting) away in
-      let ends = from into.0 into.1 (comes_apart r.account.name r.track r.others new.tracks new.waiting r.after named later.0 later.1) in
-      makes_in P Q h received posted base last (waits, out.0) out.1 bs (first ++ opened) old.state.book out.3
-      (makes_waits P Q h received posted base last r.account out.0 out.1 (first ++ opened) old.state.book
-      (begun P Q h received posted base last r.account first opened r.track old.state.book r.begins out.1 (all_away r.account.name out.1 r.others old.waiting out.2 away.0)
-      (makes_out P Q h received posted base last (r.track, set) out.1 into.0 opened old.state.book into.2 (on_book opened into.0 old.state new.state r.state ends))))
+      let s = swapped (Delayed r.account) r.track r.others opened old new r.before r.after named r.waiting (λ waits. set) from bs are apart in
+      makes_in P Q h received posted base last (Delayed r.account, s.0) s.1 bs (first ++ opened) old.state.book s.2
+      (makes_still P Q h received posted base last (Delayed r.account, s.0) s.1 (first ++ opened) old.state.book
+      (begun P Q h received posted base last r.account first opened r.track old.state.book r.begins s.1 s.3 (on_book opened ((r.track, set) ∷ s.1) old.state new.state r.state s.4)))
 
   reported_more : (first opened : List (Opening I O)) (told : List Done) (old new : Scene I O J) → IsReported received posted h (keeping_at base) window first told old new → From opened new → From (first ++ opened) old
   reported_more first opened told old new r from bs are apart =
@@ -149,19 +144,14 @@ module _ {J I O : Type 0} (P Q : Type 0) (h : Journals J) (received : I → Opti
       let away = leaves_apart done new.tracks old.tracks old.waiting r.tracks apart in
       let ends = from out.1 out.2 (subst (λ (l : List RecordName). AreApart (names_of new.tracks l)) (sym r.waiting) away.1) in
       makes_in P Q h received posted base last (done, out.0) out.1 bs (first ++ opened) old.state.book out.3
-      (makes_done P Q h received posted base last r.account r.standing out.0 out.1 (first ++ opened) old.state.book
+      (makes_still P Q h received posted base last (IsDone r.account r.standing, out.0) out.1 (first ++ opened) old.state.book
       (makes_skip P Q h received posted base last first opened out.1 old.state.book (on_book opened out.1 old.state new.state r.state ends)))
 
   moved_more : (first opened : List (Opening I O)) (told : List Done) (old new : Scene I O J) → IsMoved received posted h (keeping_at base) window first told old new → From opened new → From (first ++ opened) old
   moved_more first opened told old new m from bs are apart =
-      let out = take_out Sets bs m.others m.track (subst (λ (l : List (Track I O)). Holds m.track m.others l) (sym are) (holds_of m.track m.others old.tracks m.before)) in
-      let into = put_in Sets out.1 m.others new.tracks m.track out.0 out.2 (holds_of m.track m.others new.tracks m.after) in
-      let away = leaves_apart m.track m.others old.tracks old.waiting m.before apart in
-      let later = subst (λ (l : List RecordName). AllByRecursion (λ n. n ≢ name_of m.track) (names_of m.others l) × AreApart (names_of m.others l)) (sym m.waiting) away in
-      let ends = from into.0 into.1 (comes_apart (name_of m.track) m.track m.others new.tracks new.waiting m.after refl later.0 later.1) in
+      let s = swapped m.track m.track m.others opened old new m.before m.after refl m.waiting (λ set. set) from bs are apart in
       makes_skip P Q h received posted base last first opened bs old.state.book
-      (makes_in P Q h received posted base last (m.track, out.0) out.1 bs opened old.state.book out.3
-      (makes_out P Q h received posted base last (m.track, out.0) out.1 into.0 opened old.state.book into.2 (on_book opened into.0 old.state new.state m.state ends)))
+      (makes_in P Q h received posted base last (m.track, s.0) s.1 bs opened old.state.book s.2 (on_book opened ((m.track, s.0) ∷ s.1) old.state new.state m.state s.4))
 
   move_more : (first opened : List (Opening I O)) (told : List Done) (old new : Scene I O J) → IsMove received posted h (keeping_at base) window first told old new → From opened new → From (first ++ opened) old
   move_more first opened told old new (inl b) from = begun_more first opened told old new b from
@@ -186,8 +176,8 @@ module _ {J I O : Type 0} (P Q : Type 0) (h : Journals J) (received : I → Opti
       → Ends opened bs new.book → Ends opened ((track, set) ∷ bs) old.book
   closed (UnderWay a f) set bs opened old new (Ok done) closes ends = heard P Q h received posted base last a f set bs opened old new (Ok closes.0) closes.1 ends
   closed (UnderWay a f) set bs opened old new (Err fault) closes ends = heard P Q h received posted base last a f set bs opened old new (Err fault) closes ends
-  closed (Delayed a) set bs opened old new result closes ends = makes_waits P Q h received posted base last a set bs opened old.book (on_book opened bs old new closes.0 ends)
-  closed (IsDone a standing) set bs opened old new result closes ends = makes_done P Q h received posted base last a standing set bs opened old.book (on_book opened bs old new closes.0 ends)
+  closed (Delayed a) set bs opened old new result closes ends = makes_still P Q h received posted base last (Delayed a, set) bs opened old.book (on_book opened bs old new closes.0 ends)
+  closed (IsDone a standing) set bs opened old new result closes ends = makes_still P Q h received posted base last (IsDone a standing, set) bs opened old.book (on_book opened bs old new closes.0 ends)
 
   looked : (tracks : List (Track I O)) (opened : List (Opening I O)) (old new : Connector J) → LooksThrough received h (keeping_at base) tracks old new → Ends opened [] new.book → (bs : List Known) → tracks_of bs ≡ tracks → Ends opened bs old.book
   looked [] opened old new same ends bs none =
@@ -207,7 +197,7 @@ module _ {J I O : Type 0} (P Q : Type 0) (h : Journals J) (received : I → Opti
       → Ends opened bs new.book → Ends opened ((track, set) ∷ bs) old.book
   advanced (UnderWay a f) set bs opened old new fault (inl c) ends = heard P Q h received posted base last a f set bs opened old new (Ok c.fault) c.learnt ends
   advanced (UnderWay a f) set bs opened old new fault (inr (inl d)) ends = absurd (cc d.result_is)
-  advanced (Delayed a) set bs opened old new fault (same, goes) ends = makes_waits P Q h received posted base last a set bs opened old.book (on_book opened bs old new same ends)
+  advanced (Delayed a) set bs opened old new fault (same, goes) ends = makes_still P Q h received posted base last (Delayed a, set) bs opened old.book (on_book opened bs old new same ends)
   advanced (UnderWay a f) set bs opened old new fault (inr (inr e)) ends = heard P Q h received posted base last a f set bs opened old new (Err e.0) e.1 ends
   advanced (IsDone a standing) set bs opened old new fault (none, same, is) ends = absurd (cc is)
 
@@ -217,7 +207,7 @@ module _ {J I O : Type 0} (P Q : Type 0) (h : Journals J) (received : I → Opti
       let done = IsDone a standing in
       let out = take_out Sets bs rest done (subst (λ (l : List (Track I O)). Holds done rest l) (sym are) (holds_of done rest scene.tracks with)) in
       makes_in P Q h received posted base last (done, out.0) out.1 bs opened scene.state.book out.3
-      (makes_done P Q h received posted base last a standing out.0 out.1 opened scene.state.book (unopened opened out.1 scene.state.book (on_book [] out.1 scene.state new same (from out.1 out.2))))
+      (makes_still P Q h received posted base last (IsDone a standing, out.0) out.1 opened scene.state.book (unopened opened out.1 scene.state.book (on_book [] out.1 scene.state new same (from out.1 out.2))))
 
   caused : (opened : List (Opening I O)) (scene : Scene I O J) (rest : List (Track I O)) (new : Connector J) (fault : RunFault) → Causes received posted h (keeping_at base) window opened scene rest new fault
       → ((bs : List Known) → tracks_of bs ≡ rest → Ends [] bs new.book) → (bs : List Known) → tracks_of bs ≡ scene.tracks → Ends opened bs scene.state.book
@@ -255,10 +245,10 @@ module _ {J I O : Type 0} (P Q : Type 0) (h : Journals J) (received : I → Opti
 
 module _ {J I O : Type 0} (P Q : Type 0) (h : Journals J) (received : I → Option (List ℕ)) (posted : O → Option (List ℕ)) (base : List ℕ) (window : ℕ) where
   abbrev Does : List (Opening I O) → (book last : BookMap) → Type 0
-  Does opened book last = IsPushAbreast P Q h received posted base opened book last
+  Does opened book last = IsPush P Q h received posted base false opened book last
 
   whole : (opened : List (Opening I O)) (book last : BookMap) → Makes P Q h received posted base last opened [] book → Does opened book last
-  whole opened book last m = record { moves = m.moves; does = subst (λ waits. AbreastDoes h received posted base m.moves waits book last) m.fits m.does; streams = m.streams }
+  whole opened book last m = record { moves = m.moves; does = subst (λ waits. PushDoes h received posted base false m.moves waits book last) m.fits m.does; streams = m.streams }
 
   abreast_moved : (limit : ℕ) (names : List RecordName) (opened : List (Opening I O)) (old new : Connector J) (before after : Option (List Done)) (result : Result Tally RunFault) → AreApart names
       → PushesAbreast received posted h (keeping_at base) window limit names opened old new before after result → Makes P Q h received posted base new.book opened [] old.book

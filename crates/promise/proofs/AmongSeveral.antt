@@ -1,5 +1,5 @@
 -- To each of several connectors that share a provider, the others are others who leave its records alone.
-use Rattle.std.proofs.Common.{◌≡◌, ℕ, Bool, true, false, cond, ◌==◌, List, Option, Result, Ok, refl, ap, sym, subst, ◌∙◌, inl, inr}
+use Rattle.std.proofs.Common.{◌≡◌, ℕ, Bool, true, false, cond, ◌==◌, List, Option, Ok, refl, ap, sym, subst, ◌∙◌, inl, inr}
 use Rattle.std.proofs.lemmas.Bool.{cases_Bool, eq-eqb, eqb-true, eqb-false, false_from_ne_true}
 use Rattle.std.specs.FinMap.{keys}
 use Rattle.std.specs.Prelude.{◌⊎◌}
@@ -8,7 +8,6 @@ use Rattle.scim_key.specs.declared.records.RecordName.{RecordName}
 use Rattle.scim_resource.specs.Contents.{content_name}
 use Rattle.scim_message.specs.declared.messages.Request.{Request}
 use Rattle.scim_message.specs.declared.messages.Request.TheVariants.{Create, Retrieve, Search, Replace}
-use Rattle.scim_message.specs.declared.refusals.Refusal.{Refusal}
 use Rattle.provider_core.specs.Stories.{Entry}
 use Rattle.provider_core.specs.declared.registry.Registry.{Ghosts as Registries}
 use Rattle.http_text.specs.Forms.{IsRequestMessage}
@@ -34,7 +33,7 @@ use Rattle.promise.specs.Typed as own
 use Rattle.promise.specs.AmongTyped as typed
 use Rattle.promise.proofs.AmongTraces.{IsNamed, alone_if, along, mine_keeps, mine_named, traces_are_runs_among}
 use Rattle.promise.proofs.AmongTyped.{Keeps, ran, rows_ours}
-use Rattle.promise.proofs.Traces.{Settles, meant, spoken_start}
+use Rattle.promise.proofs.Traces.{Settles, meant, same_request, spoken_start}
 use Rattle.promise.proofs.Typed.{at_start, keys-empty}
 
 -- ---- what a connector asks for leaves the records of others alone
@@ -49,9 +48,6 @@ asked_alone theirs ours history es (Retrieve kind id if_match if_none_match) apa
 asked_alone theirs ours history es (Search kind wanted begin count) apart all asked = tt
 asked_alone theirs ours history es (Replace id content if_match if_none_match) apart all asked =
     apart (content_name content) (record_ours theirs history all (content_name content) asked.image.row asked.image.accepted)
-
-same_request : (x request : Request) → ◌≡◌ {A = Result Request Refusal} (Ok request) (Ok x) → request ≡ x
-same_request x request is = cc
 
 module _ {R J I O P Q : Type 0} (g : Registries R) (h : Journals J) (received : I → Option (List ℕ)) (posted : O → Option (List ℕ)) (remaining : P → Option (List ℕ)) (contents : Q → Option (List ℕ)) (settled : Settles g) (base : List ℕ) (is_base : IsBase base) where
   -- whatever message is at the front of what it sent

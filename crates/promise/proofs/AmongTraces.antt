@@ -1,15 +1,13 @@
 -- Each step of a trace among others over bytes is at most one step of requests and answers among others.
-use Rattle.std.proofs.Common.{◌≡◌, ℕ, true, List, [], ◌∷◌, ◌++◌, Option, Some, None, Result, Ok, Err, refl, ap, sym, subst, ◌∙◌, inl, inr}
-use Rattle.std.specs.Prelude.{◌⊎◌, IfOk}
+use Rattle.std.proofs.Common.{◌≡◌, ℕ, List, ◌++◌, Option, Some, None, Result, Ok, Err, refl, ap, sym, subst, ◌∙◌, inl, inr}
+use Rattle.std.specs.Prelude.{IfOk}
 use Rattle.std.specs.FinMap.{keys}
-use Rattle.std.specs.List.{AllByRecursion}
 use Rattle.std.specs.Option.{option_map}
 use Rattle.scim_key.specs.Bases.{IsBase}
 use Rattle.scim_key.specs.Identifiers.{id_text}
 use Rattle.scim_key.specs.declared.records.RecordName.{RecordName}
 use Rattle.scim_resource.specs.Rows.{StoredRecord}
 use Rattle.scim_message.specs.declared.messages.Request.{Request}
-use Rattle.scim_message.specs.declared.refusals.Refusal.{Refusal}
 use Rattle.provider_core.specs.Outcomes.{outcome, changed_rows}
 use Rattle.provider_core.specs.Stories.{Entry, Numbered, row_of, rows_of}
 use Rattle.provider_core.specs.Tables.{IsWholeTable, entry_named}
@@ -17,11 +15,9 @@ use Rattle.provider_core.specs.declared.registry.Registry.{Ghosts as Registries}
 use Rattle.provider_core.proofs.TableLaws.{found_by_name}
 use Rattle.http_text.specs.declared.fault.ReadFault.{ReadFault}
 use Rattle.http_text.specs.Forms.{IsRequestMessage}
-use Rattle.http_text.specs.Judging.{is_head}
 use Rattle.http_text.specs.Message.{Message}
-use Rattle.scim_http.specs.Meaning.{Asks}
 use Rattle.scim_http.specs.Replies.{ReplyRecord}
-use Rattle.connection.specs.Serving.{AnswersMeaning, AnswersMessage, GivesUp, IsUnharmed, LeavesRows, Replies}
+use Rattle.connection.specs.Serving.{LeavesRows, Replies}
 use Rattle.mapping.specs.Images.{image}
 use Rattle.journal_core.specs.declared.journals.Journal.{Ghosts as Journals}
 use Rattle.connector_core.specs.Book.{Book}
@@ -38,13 +34,13 @@ use Rattle.world_model.specs.Safe.{id_in, rows as world_rows}
 use Rattle.world_model.proofs.Invariant.{always_inv_among}
 use Rattle.world_sim.proofs.Fitting.{messages_are_read_among}
 use Rattle.world_sim.proofs.Given.{asked_fairly}
-use Rattle.promise.specs.Among.{AsksAlone, PromisedAmong, ServesTheirs, StepAmong, StepAmong.mine, StepAmong.theirs, TraceAmong, TraceAmong.here, TraceAmong.next, TracesAreRunsAmong, TracesWithoutOthers}
+use Rattle.promise.specs.Among.{AreRunsAmong, AsksAlone, PromisedAmong, ServesTheirs, StepAmong, StepAmong.mine, StepAmong.theirs, TraceAmong, TraceAmong.here, TraceAmong.next, TracesAreRunsAmong, TracesWithoutOthers}
 use Rattle.promise.specs.AmongTyped as typed
 use Rattle.promise.specs.AmongTyped.{HasOurs}
-use Rattle.promise.specs.Traces.{IsAt, IsAtFront, LeavesBook, Promised, State, Step, Step.offers, Step.asks, Step.serves, Step.hears, Step.doubts, Step.reopens, Step.rests, Trace, Trace.here as alone_here, Trace.next as alone_next, id_among, start}
+use Rattle.promise.specs.Traces.{AreRuns, IsAt, IsAtFront, LeavesBook, Promised, State, Step, Step.offers, Step.asks, Step.serves, Step.hears, Step.doubts, Step.reopens, Step.rests, Trace, Trace.here as alone_here, Trace.next as alone_next, TracesAreRuns, id_among, start}
 use Rattle.promise.specs.Typed as own
-use Rattle.promise.proofs.AmongTyped.{Keeps, changes_keep, early_apart, ran, rows_ours, typed_traces_are_runs_among}
-use Rattle.promise.proofs.Traces.{IsRead, Settles, Spoken, goes, mirrored, spoken_start}
+use Rattle.promise.proofs.AmongTyped.{Keeps, all_named, are_ours, changes_keep, early_apart, ran, rows_ours, typed_traces_are_runs_among}
+use Rattle.promise.proofs.Traces.{Did, Did.gave_up, Did.refused, Did.answered_it, Did.stopped, IsRead, Settles, Spoken, did, goes, mirrored, spoken_start, unread}
 use Rattle.promise.proofs.Typed.{at_start, changed_names, keys-empty}
 
 -- ---- the promise for our records
@@ -99,10 +95,6 @@ pub record GoesAmong (base : List ℕ) (ours : Names) (u : own.State) (t : State
   pub later : own.State
   pub trace : typed.TraceAmong ours u later
   pub spoken : Spoken base t later
-
-pub all_mine : (ours : Names) (a b : own.State) → own.Trace a b → typed.TraceAmong ours a b
-all_mine ours a b own.here = typed.here
-all_mine ours a b (own.next {mid = mid} more step) = typed.next (all_mine ours a mid more) (typed.mine step)
 
 -- what was not accepted earlier is accepted later alone
 module _ {R J I O P Q : Type 0} (g : Registries R) (h : Journals J) (received : I → Option (List ℕ)) (posted : O → Option (List ℕ)) (remaining : P → Option (List ℕ)) (contents : Q → Option (List ℕ)) (base : List ℕ) where
@@ -195,40 +187,16 @@ module _ (base : List ℕ) (ours : Names) (old : State) (u : own.State) (spoken 
       as_asked : (request : Request) → LeavesAlone ours request → rows ≡ changed_rows (g.rows s.before) (outcome (g.rows s.before) request).change → GoesAmong base ours u after_serving
       as_asked request alone done = carried_out rows request alone (done ∙ ap (λ r. changed_rows r (outcome r request).change) s.was)
 
-      -- what the message asks for is answered
-      answered_so : (m : Message) (reply : ReplyRecord) (meaning : Result Request Refusal) → AsksAlone ours m → Asks m meaning → g.is_faithful s.after → rows ≡ g.rows s.after
-          → AnswersMeaning (g.is_faithful s.after) base (g.rows s.before) (g.rows s.after) (is_head m.head) meaning reply → GoesAmong base ours u after_serving
-      answered_so m reply (Ok request) alone meant faithful kept is = as_asked request (alone request meant) (kept ∙ is.rows faithful)
-      answered_so m reply (Err refusal) alone meant faithful kept is = as_before (kept ∙ is.rows)
-
-      abbrev Answers : Message → ReplyRecord → Type 0
-      Answers m reply = AnswersMessage (g.is_faithful s.after) base (g.rows s.before) (g.rows s.after) m reply
-
-      served_message : (m : Message) (reply : ReplyRecord) → AsksAlone ours m → LeavesRows g s.before s.after (Ok m)
-          → (Answers m reply × IsUnharmed g s.before s.after) ⊎ GivesUp (g.is_faithful s.after) (g.rows s.before) (g.rows s.after) reply → GoesAmong base ours u after_serving
-      served_message m reply alone leaves says = elim (s.finds) [
-        | inl kept ↦ elim says [
-          | inl answers ↦ answered_so m reply answers.0.asked alone answers.0.asked_is kept.0 kept.1 answers.0.answer
-          | inr gives_up ↦ as_before (kept.1 ∙ gives_up.rows kept.0)
-        ]
-        | inr found ↦ elim says [
-          | inl answers ↦
-              let still = answers.1.stays_open found.1 found.0 in
-              answered_so m reply answers.0.asked alone answers.0.asked_is still (settled s.after rows still found.2) answers.0.answer
-          | inr gives_up ↦ elim (leaves.stop found.1 rows found.2) [
-            | inl held ↦ as_before (settled s.before rows found.0 held)
-            | inr after_it ↦ as_asked after_it.1.0 (alone after_it.1.0 after_it.1.1) after_it.1.2
-          ]
-        ]
-      ]
+      by_did : (m : Message) (reply : ReplyRecord) → AsksAlone ours m → Did g settled base s.before s.after rows s.finds m reply → GoesAmong base ours u after_serving
+      by_did m reply alone (gave_up fixed same) = as_before same
+      by_did m reply alone (refused refusal means same) = as_before same
+      by_did m reply alone (answered_it request means faithful is done) = as_asked request (alone request means) done
+      by_did m reply alone (stopped request means fixed done) = as_asked request (alone request means) done
 
       by_read : (read : Result Message ReadFault) (reply : Option ReplyRecord) → IfOk read (AsksAlone ours) → Replies g base s.before s.after read reply → LeavesRows g s.before s.after read
           → GoesAmong base ours u after_serving
-      by_read (Ok m) reply alone replies leaves = served_message m replies.0 alone leaves replies.2
-      by_read (Err fault) reply alone replies leaves = elim (s.finds) [
-        | inl kept ↦ as_before (kept.1 ∙ ap g.rows replies.1)
-        | inr found ↦ as_before (settled s.before rows found.0 (subst (λ (r : R). g.may_hold r rows) replies.1 found.2))
-      ]
+      by_read (Ok m) reply alone replies leaves = by_did m replies.0 alone (did g settled base s.before s.after rows s.finds m replies.0 leaves replies.2)
+      by_read (Err fault) reply alone replies leaves = as_before (unread g settled base s.before s.after rows s.finds replies.1)
 
       pub theirs_step : GoesAmong base ours u after_serving
       theirs_step = by_read s.is.replied.read s.is.replied.reply s.alone s.is.replied.replies s.is.replied.leaves
@@ -249,7 +217,7 @@ module _ {R J I O P Q : Type 0} (g : Registries R) (h : Journals J) (received : 
     one old new u all trace spoken (mine step) =
         let said = read_among base ours u is_base (subst (AllOurs ours) spoken.history all) trace in
         let on = goes base is_base u said old spoken g h received posted remaining contents settled new step in
-        record { later = on.later; trace = all_mine ours u on.later on.trace; spoken = on.spoken }
+        record { later = on.later; trace = typed.next typed.here (typed.mine on.step); spoken = on.spoken }
     one old new u all trace spoken (theirs rows s) = theirs_step base ours old u spoken g h received posted remaining contents settled rows s
 
     pub along : (old new : State) (u : own.State) → AllOurs ours new.history → typed.TraceAmong ours own.start u → Spoken base old u → Goes base ours old new → GoesAmong base ours u new
@@ -305,13 +273,27 @@ module _ {R J I O P Q : Type 0} (g : Registries R) (h : Journals J) (received : 
     reached = p.reached;
   }
 
-  each_ours : (names : List RecordName) → AllByRecursion (λ name. all_names name ≡ true) names
-  each_ours [] = tt
-  each_ours (name ∷ names) = (refl, each_ours names)
+  runs_of_ours : (s t : State) → AreRunsAmong all_names s t → AreRuns s t
+  runs_of_ours s t r =
+      let o = are_ours r.early r.late r.apart r.lawful in
+      record {
+        early = o.first;
+        late = o.more;
+        lawful = o.lawful;
+        before = subst (IsAt s) o.before r.before;
+        after = subst (IsAt t) o.after r.after;
+        headline = o.headline;
+        promised = for_all s.history s.rows (book_of s.book) t.rows r.promised;
+      }
 
   pub without_others : TracesWithoutOthers g h received posted remaining contents
   without_others = record {
     traces = all_of_us;
-    all_ours = λ book. each_ours (keys book);
+    all_ours = λ book. all_named (keys book);
+    runs = runs_of_ours;
     promised = λ history rows book later. (for_all history rows book later, of_all history rows book later);
   }
+
+  pub traces_are_runs : Settles g → TracesAreRuns g h received posted remaining contents
+  traces_are_runs settled base s t is_base trace more =
+      runs_of_ours s t (traces_are_runs_among settled base all_names s t is_base (all_named (keys t.book)) (all_of_us base all_names start s trace) (all_of_us base all_names s t more))

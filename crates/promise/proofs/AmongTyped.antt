@@ -1,5 +1,5 @@
--- Each step of a trace among others is at most one act of the model among others, or two.
-use Rattle.std.proofs.Common.{◌≡◌, ℕ, zero, suc, true, List, [], ◌∷◌, ◌++◌, Option, Some, None, Result, Ok, Err, map, refl, ap, sym, subst, ◌∙◌}
+-- Each step of a trace among others is at most one act of the model among others, or two. Without others, acts are events.
+use Rattle.std.proofs.Common.{◌≡◌, ℕ, zero, suc, Bool, true, false, List, [], ◌∷◌, ◌++◌, Option, Some, None, Result, Ok, Err, map, refl, ap, sym, subst, ◌∙◌}
 use Rattle.std.specs.BTreeSet.{insert_key}
 use Rattle.std.specs.FinMap.{keys}
 use Rattle.std.specs.List.{AllByRecursion}
@@ -10,8 +10,11 @@ use Rattle.scim_key.proofs.RecordLaws.{same as same_names}
 use Rattle.scim_key.specs.RecordOrder.{tied}
 use Rattle.scim_key.specs.Records.{name_cmp}
 use Rattle.scim_key.specs.declared.records.RecordName.{RecordName}
+use Rattle.scim_version.specs.declared.conditions.Condition.{Condition}
 use Rattle.scim_message.specs.declared.messages.Request.{Request}
+use Rattle.scim_message.specs.declared.messages.Request.TheVariants.{Create, Retrieve, Search, Replace}
 use Rattle.provider_core.specs.Outcomes.{outcome, changed_rows}
+use Rattle.provider_core.specs.Stories.{Entry, Numbered, entry_with_id, reading_entry, retrieving_entry}
 use Rattle.provider_core.proofs.StoryLaws.{rows_follow_stories}
 use Rattle.source_csv.specs.Records.{row_name}
 use Rattle.source_csv.specs.declared.rows.Row.{Row}
@@ -24,15 +27,15 @@ use Rattle.connector_core.specs.declared.accepting.Verdict.TheVariants as verdic
 use Rattle.connector_core.specs.declared.asking.Ask.{Ask}
 use Rattle.connector_core.specs.declared.asking.Ask.TheVariants.{Nothing, Waits, Send}
 use Rattle.connector_core.specs.declared.changing.ChangeFault.{ChangeFault}
-use Rattle.world_model.specs.World.{World, Message, Asked, Answered, Event, Changes, Sends, Delivers, Cuts, Restarts_provider, Restarts_connector, Doubts, changes, delivers, empty, happens, judged, message_at, sends}
-use Rattle.world_model.specs.Safe.{Has, IsAt}
+use Rattle.world_model.specs.World.{World, Message, Asked, Answered, Event, Changes, Sends, Delivers, Cuts, Restarts_provider, Restarts_connector, Doubts, changes, delivers, empty, happens, judged, message_at, run, sends}
+use Rattle.world_model.specs.Safe.{Has, Headline, IsAt}
 use Rattle.world_model.specs.Untroubled.{IsLawful}
-use Rattle.world_model.specs.Invariant.{AllOurs, Names}
+use Rattle.world_model.specs.Invariant.{AllOurs, Names, all_names}
 use Rattle.world_model.specs.Others.{Act, Ours, Theirs, IsApart, KeepsApart, LeavesAlone, acts, run_among}
 use Rattle.world_model.specs.Room.{IsLawfulAct}
-use Rattle.world_model.proofs.Headlines.{headline_holds_among}
+use Rattle.world_model.proofs.Headlines.{headline_holds, headline_holds_among}
 use Rattle.world_model.proofs.Others.{without_others}
-use Rattle.promise.specs.Typed.{Mirrors, State, start}
+use Rattle.promise.specs.Typed.{Mirrors, State, Trace, Trace.here as alone_here, Trace.next as alone_next, TypedTracesAreRuns, start}
 use Rattle.promise.specs.AmongTyped.{HasOurs, StepAmong, StepAmong.mine, StepAmong.theirs, TraceAmong, TraceAmong.here, TraceAmong.next, TypedTracesAreRunsAmong}
 use Rattle.promise.proofs.Lists.{all_both, has_last, has_more}
 use Rattle.promise.proofs.Typed.{Leads, at_start, leads}
@@ -267,3 +270,75 @@ typed_traces_are_runs_among ours s t known trace more =
       after = subst (Mirrors t) (sym (run-append ours empty first.led then_.led)) then_.mirrors;
       headline = headline_holds_among ours first.led then_.led apart;
     }
+
+-- ---- without others
+
+reading : (matches fresh : Bool) (n : Numbered) (es : List Entry) → (reading_entry matches fresh n es).entries ≡ es
+reading false false n es = refl
+reading false true n es = refl
+reading true false n es = refl
+reading true true n es = refl
+
+retrieving : (o : Option Numbered) (es : List Entry) (if_match if_none_match : Condition) → (retrieving_entry o es if_match if_none_match).entries ≡ es
+retrieving None es if_match if_none_match = refl
+retrieving (Some n) es if_match if_none_match = reading _ _ n es
+
+-- others who leave all records alone change nothing
+reads_only : (w : World) (request : Request) → LeavesAlone all_names request → acts w (Theirs request) ≡ w
+reads_only w (Create content) alone = absurd (cc alone)
+reads_only w (Retrieve kind id if_match if_none_match) alone = ap (λ es. record w { entries = es }) (retrieving (entry_with_id kind id w.entries) w.entries if_match if_none_match)
+reads_only w (Search kind wanted begin count) alone = refl
+reads_only w (Replace id content if_match if_none_match) alone = absurd (cc alone)
+
+abbrev ours_in : List Act → List Event
+ours_in [] = []
+ours_in (Ours event ∷ led) = event ∷ ours_in led
+ours_in (Theirs request ∷ led) = ours_in led
+
+ours_both : (early late : List Act) → ours_in (early ++ late) ≡ ours_in early ++ ours_in late
+ours_both [] late = refl
+ours_both (Ours event ∷ early) late = ap (λ (events : List Event). event ∷ events) (ours_both early late)
+ours_both (Theirs request ∷ early) late = ours_both early late
+
+ours_lawful : (led : List Act) → AllByRecursion IsLawfulAct led → AllByRecursion IsLawful (ours_in led)
+ours_lawful [] law = tt
+ours_lawful (Ours event ∷ led) law = (law.0, ours_lawful led law.1)
+ours_lawful (Theirs request ∷ led) law = ours_lawful led law.1
+
+ours_same : (w : World) (led : List Act) → KeepsApart all_names led → run_among w led ≡ run w (ours_in led)
+ours_same w [] apart = refl
+ours_same w (Ours event ∷ led) apart = ours_same (happens w event) led apart.1
+ours_same w (Theirs request ∷ led) apart = ap (λ v. run_among v led) (reads_only w request apart.0) ∙ ours_same w led apart.1
+
+-- acts among which every record is ours are our events
+pub record AreOurs (early late : List Act) : Type 0 where
+  pub first : List Event
+  pub more : List Event
+  pub lawful : AllByRecursion IsLawful (first ++ more)
+  pub before : run_among empty early ≡ run empty first
+  pub after : run_among empty (early ++ late) ≡ run empty (first ++ more)
+  pub headline : Headline (run empty first) (run empty (first ++ more))
+
+pub are_ours : (early late : List Act) → KeepsApart all_names (early ++ late) → AllByRecursion IsLawfulAct (early ++ late) → AreOurs early late
+are_ours early late apart law = record {
+  first = ours_in early;
+  more = ours_in late;
+  lawful = subst (AllByRecursion IsLawful) (ours_both early late) (ours_lawful (early ++ late) law);
+  before = ours_same empty early (early_apart all_names early late apart);
+  after = ours_same empty (early ++ late) apart ∙ ap (run empty) (ours_both early late);
+  headline = headline_holds (ours_in early) (ours_in late);
+}
+
+pub all_named : (names : List RecordName) → AllByRecursion (λ name. all_names name ≡ true) names
+all_named [] = tt
+all_named (name ∷ names) = (refl, all_named names)
+
+all_mine : (ours : Names) (a b : State) → Trace a b → TraceAmong ours a b
+all_mine ours a b alone_here = here
+all_mine ours a b (alone_next {mid = mid} more step) = next (all_mine ours a mid more) (mine step)
+
+pub typed_traces_are_runs : TypedTracesAreRuns
+typed_traces_are_runs s t trace more =
+    let r = typed_traces_are_runs_among all_names s t (all_named (keys t.book)) (all_mine all_names start s trace) (all_mine all_names s t more) in
+    let o = are_ours r.early r.late r.apart r.lawful in
+    record { early = o.first; late = o.more; lawful = o.lawful; before = subst (Mirrors s) o.before r.before; after = subst (Mirrors t) o.after r.after; headline = o.headline }

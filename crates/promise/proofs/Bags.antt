@@ -10,7 +10,7 @@ abbrev pub Holds : {X : Type 0} → X → (others all : List X) → Type 0
 Holds x others [] = ⊥
 Holds {X} x others (y ∷ all) = ((x ≡ y) × (others ≡ all)) ⊎ ((rest : List X) × (others ≡ y ∷ rest) × Holds x rest all)
 
-holds_at : {X : Type 0} (x : X) (front back : List X) → Holds x (front ++ back) (front ++ x ∷ back)
+pub holds_at : {X : Type 0} (x : X) (front back : List X) → Holds x (front ++ back) (front ++ x ∷ back)
 holds_at x [] back = inl (refl, refl)
 holds_at x (y ∷ front) back = inr (front ++ back, refl, holds_at x front back)
 
@@ -79,9 +79,6 @@ pub holds_longer : {X : Type 0} (x : X) (others all more : List X) → Holds x o
 holds_longer x others [] more holds = absurd holds
 holds_longer x others (y ∷ all) more (inl (same, are)) = inl (same, ap (λ l. l ++ more) are)
 holds_longer x others (y ∷ all) more (inr (rest, are, holds)) = inr (rest ++ more, ap (λ l. l ++ more) are, holds_longer x rest all more holds)
-
-pub holds_between : {X : Type 0} (x : X) (front back : List X) → Holds x (front ++ back) (front ++ x ∷ back)
-holds_between = holds_at
 
 -- ---- no two are the same
 

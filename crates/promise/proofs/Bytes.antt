@@ -1,22 +1,17 @@
--- What is read of a first part of a message, and what was written of a reply.
-use Rattle.std.proofs.Common.{◌≡◌, ℕ, zero, suc, inl, inr, Bool, true, false, List, [], ◌∷◌, ◌++◌, Option, Some, None, Result, Ok, Err, refl, ap, sym, subst, ◌∙◌, append_assoc}
-use Rattle.std.proofs.lemmas.List.{append-nil, append_cancel_left}
-use Rattle.std.specs.Io.KnownBytes.{Appends, Consumes}
+-- What is read of a first part of a message.
+use Rattle.std.proofs.Common.{◌≡◌, ℕ, zero, suc, inl, inr, Bool, true, false, List, [], ◌∷◌, ◌++◌, Option, Some, None, refl, ap, sym, subst, ◌∙◌, append_assoc}
+use Rattle.std.proofs.lemmas.List.{append-nil}
+use Rattle.std.specs.Io.KnownBytes.{Consumes}
 use Rattle.scim_message.specs.Bodies.{body_text}
 use Rattle.scim_message.specs.declared.messages.Answer.{Answer}
-use Rattle.http_text.specs.Counts.{Writing}
 use Rattle.http_text.specs.Forms.{AfterInterims, IsFinalResponse, IsMessage, IsOneResponse, IsRequestMessage, IsResponseMessage, interim_limit, request_form, response_form}
 use Rattle.http_text.specs.Message.{Message}
-use Rattle.http_text.specs.declared.fault.ReadFault.{ReadFault}
 use Rattle.http_text.specs.Requests.{TakesMessage}
 use Rattle.http_text.specs.Responses.{TakesResponse}
 use Rattle.http_text.proofs.FormLaws.{request_laws, response_laws}
 use Rattle.http_text.proofs.InterimLemmas.{responses_apart}
 use Rattle.http_text.proofs.MessageLemmas.{messages_same}
-use Rattle.scim_http.specs.Replies.{ReplyRecord, answer_text}
-use Rattle.connection.specs.declared.answering.Served.{Served}
-use Rattle.connection.specs.declared.answering.Served.TheVariants.{Answered, NoRequest, Lost}
-use Rattle.connection.specs.Serving.{IsSent, SendsReply, reply_text}
+use Rattle.scim_http.specs.Replies.{answer_text}
 use Rattle.world_model.specs.Safe.{IsPrefixOf}
 use Rattle.promise.specs.Traces.{IsAtFront}
 
@@ -76,39 +71,6 @@ one_request_message text m n front is = (messages_same request_form request_laws
 pub one_response_message : (text : List ℕ) (m n : Message) → IsAtFront IsResponseMessage text m → IsResponseMessage text n → m ≡ n
 one_response_message text m n front is =
     (responses_apart front.0 front.2.0 m n front.1 (subst (λ (b : List ℕ). IsResponseMessage b n) front.2.1 is)).0
-
--- ---- what was written
-
-appended : (held out text : List ℕ) (old new : Option (List ℕ)) → old ≡ Some held → new ≡ Some (held ++ out) → Appends old new text → out ≡ text
-appended held out text old new before after appends =
-    let known : Appends (Some held) (Some (held ++ out)) text = subst (λ n. Appends (Some held) n text) after (subst (λ o. Appends o new text) before appends) in
-    append_cancel_left held out text known
-
--- it is a first part of the reply, or all of it
-pub sent_part : (held out : List ℕ) (before after : Writing) (reply : ReplyRecord) (served : Served) → before.contents ≡ Some held → after.contents ≡ Some (held ++ out) → IsSent before after reply served
-    → IsPrefixOf out reply.text
-sent_part held out before after reply (Answered status) b a is =
-    let same = appended held out reply.text before.contents after.contents b a is.1 in ([], sym same ∙ sym (append-nil out))
-sent_part held out before after reply (NoRequest fault) b a is = absurd is
-sent_part held out before after reply (Lost status) b a is =
-    let lost = is.1.1 in
-    let same = appended held out lost.front before.contents after.contents b a lost.appends in
-    (lost.left, lost.split ∙ ap (λ (l : List ℕ). l ++ lost.left) (sym same))
-
--- without a reply nothing was written
-reply_part_none : (held out : List ℕ) (before after : Writing) → before.contents ≡ Some held → after.contents ≡ Some (held ++ out) → after ≡ before → IsPrefixOf out []
-reply_part_none held out before after b a same =
-    let known : Appends (Some held) (Some held) [] = sym (append-nil held) in
-    let at_old : Appends before.contents before.contents [] = subst (λ (o : Option (List ℕ)). Appends o o []) (sym b) known in
-    let at_new : Appends before.contents after.contents [] = subst (λ (n : Option (List ℕ)). Appends before.contents n []) (sym (ap (λ (w : Writing). w.contents) same)) at_old in
-    let none : out ≡ [] = appended held out [] before.contents after.contents b a at_new in
-    ([], sym none ∙ sym (append-nil out))
-
-pub reply_part : (held out : List ℕ) (before after : Writing) (reply : Option ReplyRecord) (read : Result Message ReadFault) (served : Served) → before.contents ≡ Some held
-    → after.contents ≡ Some (held ++ out) → SendsReply before after reply read served → IsPrefixOf out (reply_text reply)
-reply_part held out before after (Some reply) read served b a sends = sent_part held out before after reply served b a sends
-reply_part held out before after None (Ok m) served b a sends = absurd sends
-reply_part held out before after None (Err fault) served b a sends = reply_part_none held out before after b a sends.written
 
 -- without its body, a reply is a first part of the whole
 pub without_body : (base : List ℕ) (leaves_out : Bool) (answer : Answer) → IsPrefixOf (answer_text base leaves_out answer) (answer_text base false answer)

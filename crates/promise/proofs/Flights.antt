@@ -1,5 +1,5 @@
 -- A push that makes several exchanges at once, from its end to its beginning: each request that is under way waits for what came.
-use Rattle.std.proofs.Common.{◌≡◌, ◌≢◌, ◌⊎◌, ℕ, List, [], ◌∷◌, ◌++◌, map, Option, Some, Result, Ok, Err, refl, ap, sym, subst, ◌∙◌, inl, inr}
+use Rattle.std.proofs.Common.{◌≡◌, ◌≢◌, ◌⊎◌, ℕ, false, List, [], ◌∷◌, ◌++◌, map, Option, Some, Result, refl, ap, sym, subst, ◌∙◌, inl, inr}
 use Rattle.std.specs.List.{AllByRecursion}
 use Rattle.scim_key.specs.declared.records.RecordName.{RecordName}
 use Rattle.scim_client.specs.Requests.{text_of}
@@ -10,19 +10,18 @@ use Rattle.connector_core.specs.State.{State as Connector}
 use Rattle.connector_core.specs.declared.asking.Ask.TheVariants.{Send}
 use Rattle.provisioning.specs.Exchanges.{Becomes, Came, IsAsked, answer_in}
 use Rattle.provisioning.specs.Openings.{Opening}
-use Rattle.provisioning.specs.Tracks.{Begins, IsHeard, IsLearnt, IsReadFrom, IsSetOut, SetsOut}
+use Rattle.provisioning.specs.Tracks.{Begins, IsLearnt, IsSetOut, SetsOut}
 use Rattle.provisioning.specs.Windows.{name_of}
 use Rattle.provisioning.specs.declared.faults.RecordFault.{RecordFault}
 use Rattle.provisioning.specs.declared.faults.RunFault.{RunFault}
-use Rattle.provisioning.specs.declared.records.Standing.{Standing}
 use Rattle.provisioning.specs.declared.tracks.Account.{Account}
 use Rattle.provisioning.specs.declared.tracks.Flight.{Flight}
 use Rattle.provisioning.specs.declared.tracks.Track.{Track}
 use Rattle.provisioning.specs.declared.tracks.Track.TheVariants.{UnderWay, Delayed, Done as IsDone}
 use Rattle.world_model.specs.World.{Asked}
 use Rattle.world_sim.specs.Fitting.{IsFormed}
-use Rattle.promise.specs.Abreast.{AbreastDoes, exchange_of}
-use Rattle.promise.specs.Moves.{AreAmong, Asking, Move, Move.asks, Move.hears, streams_in}
+use Rattle.promise.specs.Calls.{Asking, exchange_of}
+use Rattle.promise.specs.Moves.{AreAmong, Move, Move.asks, Move.hears, PushDoes, streams_in}
 use Rattle.promise.proofs.Bags.{Holds, all_of, either_first, holds_first, with_of}
 use Rattle.promise.proofs.Calls.{unsent}
 use Rattle.provisioning.proofs.AskedLemmas.{asked_of}
@@ -60,7 +59,7 @@ module _ {J I O : Type 0} (P Q : Type 0) (h : Journals J) (received : I → Opti
     pub waits : List (Asking I O)
     pub fits : Fits bs waits
     pub moves : List (Move I O P Q)
-    pub does : AbreastDoes h received posted base moves waits book last
+    pub does : PushDoes h received posted base false moves waits book last
     pub streams : AreAmong (streams_in moves) opened
 
   -- ---- in any order
@@ -95,26 +94,22 @@ module _ {J I O : Type 0} (P Q : Type 0) (h : Journals J) (received : I → Opti
   pub makes_in : (b : Begun) (cs bs : List Begun) (opened : List (Opening I O)) (book : BookMap) → Holds b cs bs → Makes opened (b ∷ cs) book → Makes opened bs book
   makes_in b cs bs opened book holds m = record { waits = m.waits; fits = fits_in b cs bs m.waits holds m.fits; moves = m.moves; does = m.does; streams = m.streams }
 
-  -- a record that waits
-  pub makes_waits : (a : Account) (set : SetOut (Delayed a)) (bs : List Begun) (opened : List (Opening I O)) (book : BookMap) → Makes opened bs book → Makes opened ((Delayed a, set) ∷ bs) book
-  makes_waits a set bs opened book m = record { waits = m.waits; fits = (m.waits, inl refl, m.fits); moves = m.moves; does = m.does; streams = m.streams }
+  -- a record of which no exchange waits
+  pub makes_still : (b : Begun) (bs : List Begun) (opened : List (Opening I O)) (book : BookMap) → Makes opened bs book → Makes opened (b ∷ bs) book
+  makes_still b bs opened book m = record { waits = m.waits; fits = (m.waits, inl refl, m.fits); moves = m.moves; does = m.does; streams = m.streams }
 
-  -- none of its exchanges waits
+  -- no exchange of the first one waits
+  without : (b : Begun) (bs : List Begun) (opened : List (Opening I O)) (book : BookMap) (m : Makes opened (b ∷ bs) book) → m.waits ≡ m.fits.0 → Makes opened bs book
+  without b bs opened book m same = record {
+    waits = m.fits.0;
+    fits = m.fits.2;
+    moves = m.moves;
+    does = subst (λ (l : List (Asking I O)). PushDoes h received posted base false m.moves l book last) same m.does;
+    streams = m.streams;
+  }
+
   pub makes_without : (a : Account) (set : SetOut (Delayed a)) (bs : List Begun) (opened : List (Opening I O)) (book : BookMap) → Makes opened ((Delayed a, set) ∷ bs) book → Makes opened bs book
-  makes_without a set bs opened book m = elim (m.fits.1) [
-    | inl same ↦ record {
-      waits = m.fits.0;
-      fits = m.fits.2;
-      moves = m.moves;
-      does = subst (λ (l : List (Asking I O)). AbreastDoes h received posted base m.moves l book last) same m.does;
-      streams = m.streams;
-    }
-    | inr some ↦ absurd some.1
-  ]
-
-  -- a record that is done
-  pub makes_done : (a : Account) (standing : Standing) (set : SetOut (IsDone a standing)) (bs : List Begun) (opened : List (Opening I O)) (book : BookMap) → Makes opened bs book → Makes opened ((IsDone a standing, set) ∷ bs) book
-  makes_done a standing set bs opened book m = record { waits = m.waits; fits = (m.waits, inl refl, m.fits); moves = m.moves; does = m.does; streams = m.streams }
+  makes_without a set bs opened book m = elim (m.fits.1) [ inl same ↦ without (Delayed a, set) bs opened book m same | inr some ↦ absurd some.1 ]
 
   -- openings on which nothing is sent
   pub makes_skip : (first opened : List (Opening I O)) (bs : List Begun) (book : BookMap) → Makes opened bs book → Makes (first ++ opened) bs book
@@ -124,15 +119,6 @@ module _ {J I O : Type 0} (P Q : Type 0) (h : Journals J) (received : I → Opti
   makes_end = record { waits = []; fits = refl; moves = []; does = (refl, refl); streams = tt }
 
   -- ---- an exchange is over
-
-  unspelled : (a : Account) (f : Flight I O) (set : SetOut (UnderWay a f)) (bs : List Begun) (opened : List (Opening I O)) (book later : BookMap) → later ≡ book → Makes opened bs later → Makes opened ((UnderWay a f, set) ∷ bs) book
-  unspelled a f set bs opened book later same m = record {
-    waits = m.waits;
-    fits = (m.waits, inl refl, m.fits);
-    moves = m.moves;
-    does = subst (λ (b : BookMap). AbreastDoes h received posted base m.moves m.waits b last) same m.does;
-    streams = m.streams;
-  }
 
   spelled : (a : Account) (f : Flight I O) (set : SetOut (UnderWay a f)) (bs : List Begun) (opened : List (Opening I O)) (old new : Connector J) (came : Came) → IsFormed base (Asked f.request)
       → IsAsked received posted (keeping_at base) f.request set.0.0 set.0.1 (answer_in came) → Becomes h (keeping_at base) f.request came old new → Makes opened bs new.book → Makes opened ((UnderWay a f, set) ∷ bs) old.book
@@ -151,7 +137,7 @@ module _ {J I O : Type 0} (P Q : Type 0) (h : Journals J) (received : I → Opti
   heard a f set bs opened old new result learnt m =
       let asked = asked_of received posted (keeping_at base) f set.0 set.1 (answer_in learnt.came) learnt.heard in
       elim (asked.spelled) [
-        | inl none ↦ unspelled a f set bs opened old.book new.book (unsent h (text_of base f.request) f.request learnt.came (posted set.0.1) asked.written old new asked.sent none learnt.becomes) m
+        | inl none ↦ subst (λ (b : BookMap). Makes opened ((UnderWay a f, set) ∷ bs) b) (unsent h base (text_of base f.request) f.request learnt.came (posted set.0.1) asked.written old new asked.sent none learnt.becomes) (makes_still (UnderWay a f, set) bs opened new.book m)
         | inr spells ↦ spelled a f set bs opened old new learnt.came spells asked learnt.becomes m
       ]
 
@@ -176,7 +162,7 @@ module _ {J I O : Type 0} (P Q : Type 0) (h : Journals J) (received : I → Opti
 
   sent_one : (a later : Account) (f : Flight I O) (first opened : List (Opening I O)) (book : BookMap) (s : SetsOut posted (keeping_at base) a first (book_of book) later f) (bs : List Begun) (rest waits : List (Asking I O)) (moves : List (Move I O P Q)) (came : Came)
       → IsFormed base (Asked f.request) → Holds (later.name, exchange_of f s.stream came) rest waits → AllByRecursion (λ (b : Begun). name_of b.0 ≢ a.name) bs → Fits bs rest
-      → AbreastDoes h received posted base moves waits book last → AreAmong (streams_in moves) opened → Makes (first ++ opened) bs book
+      → PushDoes h received posted base false moves waits book last → AreAmong (streams_in moves) opened → Makes (first ++ opened) bs book
   sent_one a later f first opened book s bs rest waits moves came formed holds apart fits does streams =
       let e : Asking I O = (later.name, exchange_of f s.stream came) in
       let name : later.name ≡ a.name = ap (λ (x : Account). x.name) s.later_is in
@@ -185,8 +171,7 @@ module _ {J I O : Type 0} (P Q : Type 0) (h : Journals J) (received : I → Opti
         fits = fits;
         moves = asks e ∷ moves;
         does = (
-          subst (λ (n : RecordName). asking (book_of book) n ≡ Some (Send f.request)) (sym name) s.asked,
-          formed,
+          (subst (λ (n : RecordName). asking (book_of book) n ≡ Some (Send f.request)) (sym name) s.asked, formed),
           subst (λ (n : RecordName). AllByRecursion (λ (x : Asking I O). x.0 ≢ n) rest) (sym name) (fits_apart a.name bs rest apart fits),
           (waits, with_of e rest waits holds, does),
         );
@@ -197,24 +182,12 @@ module _ {J I O : Type 0} (P Q : Type 0) (h : Journals J) (received : I → Opti
   pub begun : (a : Account) (first opened : List (Opening I O)) (track : Track I O) (book : BookMap) (begins : Begins posted (keeping_at base) a first (book_of book) track) (bs : List Begun)
       → AllByRecursion (λ (b : Begun). name_of b.0 ≢ a.name) bs → Makes opened ((track, set_out a first book track begins) ∷ bs) book → Makes (first ++ opened) bs book
   begun a first opened (UnderWay later f) book s bs apart m = elim (m.fits.1) [
-    | inl same ↦ makes_skip first opened bs book (record {
-      waits = m.fits.0;
-      fits = m.fits.2;
-      moves = m.moves;
-      does = subst (λ (l : List (Asking I O)). AbreastDoes h received posted base m.moves l book last) same m.does;
-      streams = m.streams;
-    })
+    | inl same ↦ makes_skip first opened bs book (without (UnderWay later f, set_out a first book (UnderWay later f) s) bs opened book m same)
     | inr some ↦ sent_one a later f first opened book s bs m.fits.0 m.waits m.moves some.1.1.0 some.1.0 (subst (λ (x : Asking I O). Holds x m.fits.0 m.waits) some.1.1.1 some.2) apart m.fits.2 m.does m.streams
   ]
   begun a first opened (Delayed later) book s bs apart m = absurd s
   begun a first opened (IsDone later standing) book s bs apart m = elim (m.fits.1) [
-    | inl same ↦ makes_skip first opened bs book (record {
-      waits = m.fits.0;
-      fits = m.fits.2;
-      moves = m.moves;
-      does = subst (λ (l : List (Asking I O)). AbreastDoes h received posted base m.moves l book last) same m.does;
-      streams = m.streams;
-    })
+    | inl same ↦ makes_skip first opened bs book (without (IsDone later standing, set_out a first book (IsDone later standing) s) bs opened book m same)
     | inr some ↦ absurd some.1
   ]
 

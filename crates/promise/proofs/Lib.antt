@@ -2,7 +2,6 @@ pub mod Lists
 pub mod Bags
 pub mod Names
 pub mod Typed
-pub mod Promises
 pub mod Errors
 pub mod Bytes
 pub mod Traces
@@ -14,7 +13,5 @@ pub mod Pushes
 pub mod Flights
 pub mod Reopening
 pub mod Abreast
-pub mod Paces
-pub mod Leading
 pub mod Moves
 pub mod Resets

@@ -8,12 +8,9 @@ pub all_both : {X : Type 0} (P : X → Type 0) (xs ys : List X) → AllByRecursi
 all_both P [] ys all others = others
 all_both P (x ∷ xs) ys all others = (all.0, all_both P xs ys all.1 others)
 
-last_at : {X : Type 0} (xs : List X) (x : X) → Has (xs ++ x ∷ []) x
-last_at [] x = (0, refl)
-last_at (y ∷ xs) x = let (place, at) = last_at xs x in (suc place, at)
-
 pub has_last : {X : Type 0} (xs : List X) (x : X) → Has (xs ++ x ∷ []) x
-has_last = last_at
+has_last [] x = (0, refl)
+has_last (y ∷ xs) x = let (place, at) = has_last xs x in (suc place, at)
 
 pub has_more : {X : Type 0} (xs more : List X) (x : X) → Has xs x → Has (xs ++ more) x
 has_more xs more x has = (has.0, at_more xs more has.0 x has.1)

@@ -1,28 +1,32 @@
--- The moves of a listener, and the traces that they make with those of a push, among others or not.
-use Rattle.std.proofs.Common.{◌≡◌, ℕ, List, [], ◌∷◌, ◌++◌, Option, None, refl, ap, sym, subst, inl, inr}
+-- The moves of a push and of a listener, and the trace that they make, in whichever order they come.
+use Rattle.std.proofs.Common.{ℕ, Bool, true, false, List, [], ◌∷◌, ◌++◌, Option, refl, ap, sym, subst, inl, inr}
 use Rattle.std.proofs.lemmas.List.{append-nil}
+use Rattle.std.specs.List.{AllByRecursion}
 use Rattle.scim_resource.specs.Rows.{StoredRecord}
 use Rattle.scim_message.specs.declared.messages.Request.{Request}
 use Rattle.provider_core.specs.declared.registry.Registry.{Ghosts as Registries}
-use Rattle.connection.specs.Turns.{AreTurns, Turn, all_opened, taken, unopened}
 use Rattle.http_text.specs.Counts.{fresh_writing}
+use Rattle.connection.specs.Turns.{AreTurns, Turn, all_opened, taken, unopened}
 use Rattle.journal_core.specs.declared.journals.Journal.{Ghosts as Journals}
+use Rattle.connector_core.specs.Changing.{history_after, judged, taking}
 use Rattle.connector_core.specs.Maps.{BookMap}
-use Rattle.connector_core.specs.State.{State as Connector}
-use Rattle.world_model.specs.Invariant.{Names}
+use Rattle.provisioning.specs.Paces.{PushesAt, PushesInTurn}
 use Rattle.provisioning.specs.Runs.{Done}
+use Rattle.provisioning.specs.Services.{keeping_at}
+use Rattle.provisioning.specs.Windows.{window_of}
 use Rattle.provisioning.specs.declared.offering.Judged.{Judged}
-use Rattle.promise.specs.Abreast.{AbreastMovesAreTraces, PushAtPaceAndServeAreATrace, PushesAtPacesAreMoves, PushesInTurnAreMoves}
-use Rattle.promise.specs.Among.{StepAmong, StepAmong.mine, StepAmong.theirs, TraceAmong, TraceAmong.here as among_here, TraceAmong.next as among_next}
-use Rattle.promise.specs.AmongMoves.{BringsTheirs, ConnectorDoes, DeliversAmong, DeliversOr, MovesAreTracesAmong, PushAndServeAreATraceAmong, ReachesAmong}
-use Rattle.promise.specs.AmongPaces.{PushAtPaceAndServeAreATraceAmong}
-use Rattle.promise.specs.Moves.{AreKnown, Connection, Delivers, Interleaves, IsConnection, IsListener, ListenersAreMoves, Move, Move.offers, Move.asks, Move.hears, Move.serves, MovesAreTraces, PushAndServeAreATrace, PushesAreMoves, Reaches, ServeDoes}
-use Rattle.promise.specs.Traces.{State, Step, Written, Trace.here, Trace.next}
+use Rattle.world_model.specs.Invariant.{Names}
+use Rattle.world_model.specs.Safe.{Has}
+use Rattle.promise.specs.Among.{StepAmong.mine, StepAmong.theirs, TraceAmong, TraceAmong.here, TraceAmong.next}
+use Rattle.promise.specs.Calls.{Asking}
+use Rattle.promise.specs.Moves.{AreKnown, Connection, ConnectorDoes, DeliversAmong, Interleaves, IsListener, ListenersAreMoves, Move, Move.offers, Move.asks, Move.hears, Move.serves, MovesAreTracesAmong, PushAndServeAreATraceAmong, PushDoes, PushesAtPacesAreMoves, PushesConnect, PushesInTurnAreMoves, ReachesAmong, ServeDoes}
+use Rattle.promise.specs.Traces.{State, Step.offers as offers_step, Step.asks as asks_step}
+use Rattle.promise.proofs.Abreast.{abreast_made}
 use Rattle.promise.proofs.AmongTraces.{alone_if}
-use Rattle.promise.proofs.Calls.{and_then, brought, reply_grows}
-use Rattle.promise.proofs.Leading.{leads, pushes_at_paces_connect, pushes_connect}
-use Rattle.promise.proofs.Paces.{pace_made}
-use Rattle.promise.proofs.Pushes.{push_made, turn_made}
+use Rattle.promise.proofs.Bags.{all_of, all_weaker, holds_of, one_of}
+use Rattle.promise.proofs.Calls.{brought, over_step, reply_grows, served_step}
+use Rattle.promise.proofs.Lists.{has_last, has_more}
+use Rattle.promise.proofs.Pushes.{carries_made, in_turn_made}
 
 -- ---- the turns of a listener
 
@@ -65,135 +69,116 @@ module _ {R P Q : Type 0} (I O : Type 0) (g : Registries R) (remaining : P → O
 -- ---- one trace
 
 module _ {R J I O P Q : Type 0} (g : Registries R) (h : Journals J) (received : I → Option (List ℕ)) (posted : O → Option (List ℕ)) (remaining : P → Option (List ℕ)) (contents : Q → Option (List ℕ)) where
-  -- without others, no connection is theirs
-  all_ours : (base : List ℕ) (moves : List (Move I O P Q)) (sent : List Request) (written : List Written) → Delivers received remaining base moves sent written
-      → DeliversOr received remaining base (λ (reader : P). ⊥) moves sent written
-  all_ours base [] sent written brings = brings
-  all_ours base (offers row ∷ moves) sent written brings = all_ours base moves sent written brings
-  all_ours base (asks e ∷ moves) sent written brings = all_ours base moves (sent ++ e.1.request ∷ []) written brings
-  all_ours base (hears e ∷ moves) sent written brings = (brings.0, all_ours base moves sent written brings.1)
-  all_ours base (serves c ∷ moves) sent written brings = inl (brings.0, brings.1, all_ours base moves sent (written ++ (brings.0, c.out) ∷ []) brings.2)
+  module _ (base : List ℕ) (in_turn : Bool) (last : BookMap) where
+    abbrev Awaits : List (Asking I O) → List Request → Type 0
+    Awaits waits sent = AllByRecursion (λ (e : Asking I O). Has sent e.1.request) waits
 
-  module _ (base : List ℕ) (book : BookMap) (rows : List StoredRecord) where
-    abbrev Comes : State → Type 0
-    Comes s = Reaches g h received posted remaining contents base s book rows
+    connects : (moves : List (Move I O P Q)) (waits : List (Asking I O)) (sent : List Request) (book : BookMap) → Awaits waits sent → PushDoes h received posted base in_turn moves waits book last
+        → ConnectorDoes h received posted base moves sent book last
+    connects [] waits sent book awaits push = push.1
+    connects (offers row ∷ moves) waits sent book awaits push = (push.1, connects moves [] sent (taking book row) tt push.2)
+    connects (asks e ∷ moves) waits sent book awaits push =
+        let more = sent ++ e.1.request ∷ [] in
+        let still = all_weaker (λ (f : Asking I O). Has sent f.1.request) (λ (f : Asking I O). Has more f.1.request) (λ f has. has_more sent (e.1.request ∷ []) f.1.request has) waits awaits in
+        (push.0, connects moves push.2.0 more book (all_of (λ (f : Asking I O). Has more f.1.request) e waits push.2.0 (holds_of e waits push.2.0 push.2.1) (has_last sent e.1.request) still) push.2.2)
+    connects (hears e ∷ moves) waits sent book awaits push =
+        let has = one_of (λ (f : Asking I O). Has sent f.1.request) e push.0 waits (holds_of e push.0 waits push.1) awaits in
+        (has.0, (push.2.0, push.2.1, push.2.2, push.2.3, connects moves push.0 sent push.2.1.book has.1 push.2.4))
+    connects (serves c ∷ moves) waits sent book awaits push = absurd push
 
-    first_step : (s t : State) → Step g h received posted remaining contents base s t → Comes t → Comes s
-    first_step s t step comes = record {
-      new = comes.new;
-      trace = and_then g h received posted remaining contents base s t comes.new (next here step) comes.trace;
-      book_is = comes.book_is;
-      rows_are = comes.rows_are;
-    }
+  pub pushes_connect : PushesConnect g h received posted remaining contents
+  pushes_connect base in_turn moves sent book last push = connects base in_turn last moves [] sent book tt push
 
-    connected : (all pushed served : List (Move I O P Q)) (s : State) → ConnectorDoes h received posted base pushed s.sent s.book book → ServeDoes g remaining contents base served s.rows rows → Interleaves pushed served all
-        → Delivers received remaining base all s.sent s.written → Comes s
-    connected all pushed served s does serve order brings =
-        leads g h received posted remaining contents base (λ (reader : P). ⊥) book rows Comes first_step (λ s c found is none comes. absurd none)
-        (λ s book_is rows_are. record { new = s; trace = here; book_is = book_is; rows_are = rows_are }) all pushed served s does serve order (all_ours base all s.sent s.written brings)
+  -- from the state to which the trace leads so far
+  module _ (base : List ℕ) (ours : Names) (old : State) (book : BookMap) (rows : List StoredRecord) where
+    abbrev So_far : State → Type 0
+    So_far s = TraceAmong g h received posted remaining contents base ours old s
 
-  module _ (base : List ℕ) (ours : Names) (book : BookMap) (rows : List StoredRecord) where
-    abbrev Goes : State → State → Type 0
-    Goes s t = TraceAmong g h received posted remaining contents base ours s t
+    abbrev Connects : List (Move I O P Q) → State → Type 0
+    Connects moves s = ConnectorDoes h received posted base moves s.sent s.book book
 
-    then_among : (a b c : State) → Goes a b → Goes b c → Goes a c
-    then_among a b c first among_here = first
-    then_among a b c first (among_next {mid = mid} more step) = among_next (then_among a b mid first more) step
+    abbrev Answers : List (Move I O P Q) → State → Type 0
+    Answers moves s = ServeDoes g remaining contents base moves s.rows rows
 
-    abbrev ComesAmong : State → Type 0
-    ComesAmong s = ReachesAmong g h received posted remaining contents base ours s book rows
+    abbrev Brings : List (Move I O P Q) → State → Type 0
+    Brings all s = DeliversAmong received remaining base ours all s.sent s.written
 
-    first_among : (s t : State) → StepAmong g h received posted remaining contents base ours s t → ComesAmong t → ComesAmong s
-    first_among s t step comes =
-        record { new = comes.new; trace = then_among s t comes.new (among_next among_here step) comes.trace; book_is = comes.book_is; rows_are = comes.rows_are }
+    abbrev Leads : List (Move I O P Q) → Type 0
+    Leads all = (pushed served : List (Move I O P Q)) (s : State) → So_far s → Connects pushed s → Answers served s → Interleaves pushed served all → Brings all s → ReachesAmong g h received posted remaining contents base ours old book rows
 
-    first_theirs : (s : State) (c : Connection P Q) (found : List StoredRecord) → IsConnection g remaining contents base c s.rows found → BringsTheirs remaining ours c.reader → ComesAmong (record s { rows = found }) → ComesAmong s
-    first_theirs s c found one others comes =
+    by_push : (all : List (Move I O P Q)) → Leads all → (x : Move I O P Q) (rest served : List (Move I O P Q)) (s : State) → So_far s → Connects (x ∷ rest) s → Answers served s → Interleaves rest served all → Brings (x ∷ all) s
+        → ReachesAmong g h received posted remaining contents base ours old book rows
+    by_push all later (offers row) rest served s trace does serve order brings =
+        let t : State = record s { history = history_after s.history row (judged s.book row); book = taking s.book row } in
+        later rest served t (next trace (mine (offers_step row does.0))) does.1 serve order brings
+    by_push all later (asks e) rest served s trace does serve order brings =
+        let t : State = record s { sent = s.sent ++ e.1.request ∷ [] } in
+        later rest served t (next trace (mine (asks_step e.0 e.1.request does.0.0 does.0.1))) does.1 serve order brings
+    by_push all later (hears e) rest served s trace does serve order brings =
+        let its = does.1 in
+        let t : State = record s { book = its.1.book } in
+        later rest served t (next trace (mine (over_step g h received posted remaining contents base s e its.0 its.1 its.2 its.3 does.0 brings.0 its.1.book (inl refl)))) its.4 serve order brings.1
+    by_push all later (serves c) rest served s trace does serve order brings = absurd does
+
+    by_serve : (all : List (Move I O P Q)) → Leads all → (x : Move I O P Q) (pushed rest : List (Move I O P Q)) (s : State) → So_far s → Connects pushed s → Answers (x ∷ rest) s → Interleaves pushed rest all → Brings (x ∷ all) s
+        → ReachesAmong g h received posted remaining contents base ours old book rows
+    by_serve all later (serves c) pushed rest s trace does serve order brings =
+        let one = serve.1 in
         let is = one.is in
-        let came = others.0 in
-        first_among s (record s { rows = found }) (theirs found (record {
-          before = one.before;
-          after = one.after;
-          reader = c.reader;
-          writer = c.writer;
-          served = c.served;
-          is = is;
-          was = one.was;
-          alone = alone_if ours came is.replied.read others.2
-              (brought came came (remaining c.reader) is.left.remaining is.replied.read others.1 ([], sym (append-nil came)) is.replied.has_read.message);
-          finds = one.finds;
-        })) comes
+        elim brings [
+          | inl ours_too ↦
+              let t : State = record s { rows = serve.0; written = s.written ++ (ours_too.0, c.out) ∷ [] } in
+              later pushed rest t (next trace (mine (served_step g h received posted remaining contents base s one.before one.after c.reader c.writer c.served is one.was ours_too.0 ours_too.1 serve.0 one.finds c.out one.wrote)))
+              does serve.2 order ours_too.2
+          | inr elsewhere ↦
+              let others = elsewhere.0 in
+              later pushed rest (record s { rows = serve.0 }) (next trace (theirs serve.0 (record {
+                before = one.before;
+                after = one.after;
+                reader = c.reader;
+                writer = c.writer;
+                served = c.served;
+                is = is;
+                was = one.was;
+                alone = alone_if ours others.0 is.replied.read others.2
+                    (brought others.0 others.0 (remaining c.reader) is.left.remaining is.replied.read others.1 ([], sym (append-nil others.0)) is.replied.has_read.message);
+                finds = one.finds;
+              }))) does serve.2 order elsewhere.1
+        ]
+    by_serve all later (offers row) pushed rest s trace does serve order brings = absurd serve
+    by_serve all later (asks e) pushed rest s trace does serve order brings = absurd serve
+    by_serve all later (hears e) pushed rest s trace does serve order brings = absurd serve
 
-    connected_among : (all pushed served : List (Move I O P Q)) (s : State) → ConnectorDoes h received posted base pushed s.sent s.book book → ServeDoes g remaining contents base served s.rows rows → Interleaves pushed served all
-        → DeliversAmong received remaining base ours all s.sent s.written → ComesAmong s
-    connected_among all pushed served s does serve order brings =
-        leads g h received posted remaining contents base (BringsTheirs remaining ours) book rows ComesAmong (λ s t step comes. first_among s t (mine step) comes) first_theirs
-        (λ s book_is rows_are. record { new = s; trace = among_here; book_is = book_is; rows_are = rows_are }) all pushed served s does serve order brings
+    leads : (all : List (Move I O P Q)) → Leads all
+    leads [] pushed served s trace does serve order brings =
+        let push = subst (λ (l : List (Move I O P Q)). Connects l s) order.0 does in
+        let answers = subst (λ (l : List (Move I O P Q)). Answers l s) order.1 serve in
+        record { new = s; trace = trace; book_is = sym push; rows_are = sym answers }
+    leads (x ∷ all) pushed served s trace does serve order brings = elim order [
+      | inl mine_too ↦ by_push all (leads all) x mine_too.0 served s trace (subst (λ (l : List (Move I O P Q)). Connects l s) mine_too.1 does) serve mine_too.2 brings
+      | inr its ↦ by_serve all (leads all) x pushed its.0 s trace does (subst (λ (l : List (Move I O P Q)). Answers l s) its.1 serve) its.2 brings
+    ]
 
   pub moves_are_traces_among : MovesAreTracesAmong g h received posted remaining contents
-  moves_are_traces_among base ours old pushed served all book rows does serve order brings = connected_among base ours book rows all pushed served old does serve order brings
+  moves_are_traces_among base ours old pushed served all book rows does serve order brings = leads base ours old book rows all pushed served old here does serve order brings
 
-  pub abreast_moves_are_traces : AbreastMovesAreTraces g h received posted remaining contents
-  abreast_moves_are_traces base old pushed served all book rows push serve order brings =
-      connected base book rows all pushed served old (pushes_at_paces_connect g h received posted remaining contents base pushed old.sent old.book book push) serve order brings
-
-  pub moves_are_traces : MovesAreTraces g h received posted remaining contents
-  moves_are_traces base old pushed served all book rows push serve order brings =
-      connected base book rows all pushed served old (pushes_connect g h received posted remaining contents base pushed old.sent old.book book push) serve order brings
-
-  -- ---- a push beside a listener
-
-  module _ (base : List ℕ) (old new : Connector J) (store kept : R) (pushed served : List (Move I O P Q))
-      (does : (sent : List Request) → ConnectorDoes h received posted base pushed sent old.book new.book) (serve : ServeDoes g remaining contents base served (g.rows store) (g.rows kept)) where
-    from_book : (s : State) → old.book ≡ s.book → ConnectorDoes h received posted base pushed s.sent s.book new.book
-    from_book s was = subst (λ (b : BookMap). ConnectorDoes h received posted base pushed s.sent b new.book) was (does s.sent)
-
-    from_rows : (s : State) → g.rows store ≡ s.rows → ServeDoes g remaining contents base served s.rows (g.rows kept)
-    from_rows s were = subst (λ (r : List StoredRecord). ServeDoes g remaining contents base served r (g.rows kept)) were serve
-
-    beside : (s : State) (all : List (Move I O P Q)) → old.book ≡ s.book → g.rows store ≡ s.rows → Interleaves pushed served all → Delivers received remaining base all s.sent s.written
-        → Reaches g h received posted remaining contents base s new.book (g.rows kept)
-    beside s all was were order brings = connected base new.book (g.rows kept) all pushed served s (from_book s was) (from_rows s were) order brings
-
-    beside_among : (ours : Names) (s : State) (all : List (Move I O P Q)) → old.book ≡ s.book → g.rows store ≡ s.rows → Interleaves pushed served all → DeliversAmong received remaining base ours all s.sent s.written
-        → ReachesAmong g h received posted remaining contents base ours s new.book (g.rows kept)
-    beside_among ours s all was were order brings = connected_among base ours new.book (g.rows kept) all pushed served s (from_book s was) (from_rows s were) order brings
+  pub push_and_serve_are_a_trace_among : PushAndServeAreATraceAmong g h received posted remaining contents
+  push_and_serve_are_a_trace_among base in_turn opened connections book last found rows push serve ours s all was were order brings =
+      moves_are_traces_among base ours s push.moves serve.moves all last rows
+      (subst (λ (b : BookMap). ConnectorDoes h received posted base push.moves s.sent b last) was (pushes_connect base in_turn push.moves s.sent book last push.does))
+      (subst (λ (r : List StoredRecord). ServeDoes g remaining contents base serve.moves r rows) were serve.does) order brings
 
   module _ {T L : Type 0} (heard : T → Option (List Judged)) (told : T → Option (List Done)) (waiting : L → Option (List (P × Q))) where
-    pub pushes_are_moves : PushesAreMoves g h received posted remaining contents heard told waiting
-    pushes_are_moves base sources opened old new before after result carries all = push_made P Q h received posted base heard told sources opened old new before after result carries all
-
     pub pushes_in_turn_are_moves : PushesInTurnAreMoves g h received posted remaining contents heard told waiting
     pushes_in_turn_are_moves base leavers_first limit sources opened old new before after result carries all =
-        turn_made P Q h received posted base heard told leavers_first limit sources opened old new before after result carries all
+        carries_made P Q h received posted base true (PushesInTurn received posted h (keeping_at base) leavers_first limit) (in_turn_made P Q h received posted base true leavers_first limit)
+        heard told sources opened old new before after result carries all
 
     pub pushes_at_paces_are_moves : PushesAtPacesAreMoves g h received posted remaining contents heard told waiting
-    pushes_at_paces_are_moves base pace sources opened old new before after result carries all = pace_made P Q h received posted base heard told pace sources opened old new before after result carries all
+    pushes_at_paces_are_moves base pace sources opened old new before after result carries all =
+        carries_made P Q h received posted base false (PushesAt received posted h (keeping_at base) pace) (abreast_made P Q h received posted base (window_of pace.streams) pace.give_up_after pace.leavers_first)
+        heard told sources opened old new before after result carries all
 
     pub listeners_are_moves : ListenersAreMoves g h received posted remaining contents heard told waiting
     listeners_are_moves base before after old new count result turns faithful known =
         (all_opened turns.turns, turns.takes, turns_made I O g remaining contents base known turns.turns old new turns.served faithful)
-
-    pub push_and_serve_are_a_trace : PushAndServeAreATrace g h received posted remaining contents heard told waiting
-    push_and_serve_are_a_trace base sources opened old new before after outcome first last store kept count result carries valid turns faithful known =
-        let push = pushes_are_moves base sources opened old new before after outcome carries valid in
-        let listener = listeners_are_moves base first last store kept count result turns faithful known in
-        (push, listener.0, listener.1, listener.2, beside base old new store kept push.moves listener.2.moves (λ sent. pushes_connect g h received posted remaining contents base push.moves sent old.book new.book push.does) listener.2.does)
-
-    pub push_at_pace_and_serve_are_a_trace : PushAtPaceAndServeAreATrace g h received posted remaining contents heard told waiting
-    push_at_pace_and_serve_are_a_trace base pace sources opened old new before after outcome first last store kept count result carries valid turns faithful known =
-        let push = pushes_at_paces_are_moves base pace sources opened old new before after outcome carries valid in
-        let listener = listeners_are_moves base first last store kept count result turns faithful known in
-        (push, listener.0, listener.1, listener.2, beside base old new store kept push.moves listener.2.moves (λ sent. pushes_at_paces_connect g h received posted remaining contents base push.moves sent old.book new.book push.does) listener.2.does)
-
-    pub push_and_serve_are_a_trace_among : PushAndServeAreATraceAmong g h received posted remaining contents heard told waiting
-    push_and_serve_are_a_trace_among base sources opened old new before after outcome first last store kept count result carries valid turns faithful known =
-        let push = pushes_are_moves base sources opened old new before after outcome carries valid in
-        let listener = listeners_are_moves base first last store kept count result turns faithful known in
-        (push, listener.0, listener.1, listener.2, beside_among base old new store kept push.moves listener.2.moves (λ sent. pushes_connect g h received posted remaining contents base push.moves sent old.book new.book push.does) listener.2.does)
-
-    pub push_at_pace_and_serve_are_a_trace_among : PushAtPaceAndServeAreATraceAmong g h received posted remaining contents heard told waiting
-    push_at_pace_and_serve_are_a_trace_among base pace sources opened old new before after outcome first last store kept count result carries valid turns faithful known =
-        let push = pushes_at_paces_are_moves base pace sources opened old new before after outcome carries valid in
-        let listener = listeners_are_moves base first last store kept count result turns faithful known in
-        (push, listener.0, listener.1, listener.2, beside_among base old new store kept push.moves listener.2.moves (λ sent. pushes_at_paces_connect g h received posted remaining contents base push.moves sent old.book new.book push.does) listener.2.does)

@@ -1,5 +1,5 @@
--- The moves of a push.
-use Rattle.std.proofs.Common.{◌≡◌, ℕ, Bool, false, List, [], ◌∷◌, ◌++◌, map, Option, Some, None, Result, Ok, Err, refl, ap, sym, subst, ◌∙◌, append_assoc, inl, inr}
+-- The moves of a push: the rows of its files, and exchanges one after another.
+use Rattle.std.proofs.Common.{◌≡◌, ℕ, Bool, true, false, List, [], ◌∷◌, ◌++◌, map, Option, Some, None, Result, Ok, Err, refl, ap, sym, subst, ◌∙◌, append_assoc, inl, inr}
 use Rattle.std.specs.List.{AllByRecursion}
 use Rattle.scim_key.specs.declared.records.RecordName.{RecordName}
 use Rattle.scim_key.specs.declared.records.Kind.{Kind}
@@ -11,7 +11,7 @@ use Rattle.journal_core.specs.declared.journals.Journal.{Ghosts as Journals}
 use Rattle.connector_core.specs.Changing.{taking, taking_all}
 use Rattle.connector_core.specs.Maps.{BookMap}
 use Rattle.connector_core.specs.State.{State as Connector}
-use Rattle.provisioning.specs.Carrying.{Carries, CarriesBy}
+use Rattle.provisioning.specs.Carrying.{CarriesBy}
 use Rattle.provisioning.specs.Exchanges.{Exchange, IsExchange, opening_of, openings_of}
 use Rattle.provisioning.specs.Offering.{OffersAll, OffersFile, OffersGroups, rows_in}
 use Rattle.provisioning.specs.Openings.{Opening}
@@ -27,7 +27,8 @@ use Rattle.provisioning.specs.declared.records.Pushed.{Pushed}
 use Rattle.provisioning.specs.declared.sources.Source.{Source}
 use Rattle.provisioning.specs.declared.sources.Sources.{Sources}
 use Rattle.provisioning.specs.Services.{keeping_at}
-use Rattle.promise.specs.Moves.{AreAmong, Asking, IsPush, Move, Move.offers, Move.asks, Move.hears, Move.serves, PushDoes, rows_if, rows_of_files, streams_in}
+use Rattle.promise.specs.Calls.{Asking}
+use Rattle.promise.specs.Moves.{AreAmong, IsPush, MayAsk, Move, Move.offers, Move.asks, Move.hears, Move.serves, PushDoes, rows_if, rows_of_files, streams_in}
 use Rattle.promise.proofs.Calls.{unsent}
 
 -- ---- lists
@@ -52,35 +53,34 @@ streams_then (asks e ∷ ms) ns = ap (λ l. opening_of e.1 ∷ l) (streams_then 
 streams_then (hears e ∷ ms) ns = streams_then ms ns
 streams_then (serves c ∷ ms) ns = streams_then ms ns
 
-module _ {J I O : Type 0} (P Q : Type 0) (h : Journals J) (received : I → Option (List ℕ)) (posted : O → Option (List ℕ)) (base : List ℕ) where
-  abbrev Does : List (Move I O P Q) → Option (Asking I O) → (book last : BookMap) → Type 0
-  Does moves waits book last = PushDoes h received posted base moves waits book last
+may_first : {I O : Type 0} (in_turn : Bool) (e : Asking I O) → MayAsk in_turn e []
+may_first true e = refl
+may_first false e = tt
+
+module _ {J I O : Type 0} (P Q : Type 0) (h : Journals J) (received : I → Option (List ℕ)) (posted : O → Option (List ℕ)) (base : List ℕ) (in_turn : Bool) where
+  abbrev Does : List (Move I O P Q) → List (Asking I O) → (book last : BookMap) → Type 0
+  Does moves waits book last = PushDoes h received posted base in_turn moves waits book last
 
   abbrev Makes : List (Opening I O) → (book last : BookMap) → Type 0
-  Makes opened book last = IsPush P Q h received posted base opened book last
+  Makes opened book last = IsPush P Q h received posted base in_turn opened book last
 
-  push_then : (ms ns : List (Move I O P Q)) (waits : Option (Asking I O)) (a b c : BookMap) → Does ms waits a b → Does ns None b c → Does (ms ++ ns) waits a c
-  push_then [] ns None a b c one more = subst (λ (x : BookMap). Does ns None x c) one more
-  push_then [] ns (Some e) a b c one more = absurd one
-  push_then (offers row ∷ ms) ns None a b c one more = (one.0, push_then ms ns None (taking a row) b c one.1 more)
-  push_then (offers row ∷ ms) ns (Some e) a b c one more = absurd one
-  push_then (asks e ∷ ms) ns None a b c one more = (one.0, one.1, push_then ms ns (Some e) a b c one.2 more)
-  push_then (asks e ∷ ms) ns (Some f) a b c one more = absurd one
-  push_then (hears e ∷ ms) ns None a b c one more = absurd one
-  push_then (hears e ∷ ms) ns (Some f) a b c one more =
-      (one.0, (one.1.0, one.1.1, one.1.2, one.1.3, push_then ms ns None one.1.1.book b c one.1.4 more))
+  push_then : (ms ns : List (Move I O P Q)) (waits : List (Asking I O)) (a b c : BookMap) → Does ms waits a b → Does ns [] b c → Does (ms ++ ns) waits a c
+  push_then [] ns waits a b c one more = subst (λ (l : List (Asking I O)). Does ns l a c) (sym one.0) (subst (λ (x : BookMap). Does ns [] x c) one.1 more)
+  push_then (offers row ∷ ms) ns waits a b c one more = (one.0, one.1, push_then ms ns [] (taking a row) b c one.2 more)
+  push_then (asks e ∷ ms) ns waits a b c one more = (one.0, one.1, (one.2.0, one.2.1, push_then ms ns one.2.0 a b c one.2.2 more))
+  push_then (hears e ∷ ms) ns waits a b c one more = (one.0, one.1, (one.2.0, one.2.1, one.2.2, one.2.3, push_then ms ns one.0 one.2.1.book b c one.2.4 more))
   push_then (serves d ∷ ms) ns waits a b c one more = absurd one
 
   both : (opened others : List (Opening I O)) (a b c : BookMap) → Makes opened a b → Makes others b c → Makes (opened ++ others) a c
   both opened others a b c one more = record {
     moves = one.moves ++ more.moves;
-    does = push_then one.moves more.moves None a b c one.does more.does;
+    does = push_then one.moves more.moves [] a b c one.does more.does;
     streams = subst (λ (l : List (Opening I O)). AreAmong l (opened ++ others)) (sym (streams_then one.moves more.moves))
         (among_then (streams_in one.moves) (streams_in more.moves) opened others one.streams more.streams);
   }
 
   no_moves : (opened : List (Opening I O)) (a b : BookMap) → b ≡ a → Makes opened a b
-  no_moves opened a b same = record { moves = []; does = same; streams = tt }
+  no_moves opened a b same = record { moves = []; does = (refl, same); streams = tt }
 
   unchanged : (opened : List (Opening I O)) (old new : Connector J) → new ≡ old → Makes opened old.book new.book
   unchanged opened old new same = no_moves opened old.book new.book (ap (λ (c : Connector J). c.book) same)
@@ -92,10 +92,14 @@ module _ {J I O : Type 0} (P Q : Type 0) (h : Journals J) (received : I → Opti
 
   exchange_made : (name : RecordName) (e : Exchange I O) (old new : Connector J) → IsExchange received posted h (keeping_at base) name e old new → Makes (opening_of e ∷ []) old.book new.book
   exchange_made name e old new is = elim (is.sent.spelled) [
-    | inl none ↦ no_moves (opening_of e ∷ []) old.book new.book (unsent h (text_of base e.request) e.request e.came (posted e.writer) is.sent.written old new is.sent.sent none is.becomes)
+    | inl none ↦ no_moves (opening_of e ∷ []) old.book new.book (unsent h base (text_of base e.request) e.request e.came (posted e.writer) is.sent.written old new is.sent.sent none is.becomes)
     | inr spells ↦ record {
       moves = asks (name, e) ∷ hears (name, e) ∷ [];
-      does = (is.asked, spells, (refl, (old, new, is, refl, refl)));
+      does = (
+        (is.asked, spells),
+        may_first in_turn (name, e),
+        ((name, e) ∷ [], ([], [], refl, refl), ([], ([], [], refl, refl), (old, new, record { sent = is.sent; becomes = is.becomes }, refl, (refl, refl)))),
+      );
       streams = ([], [], refl, tt);
     }
   ]
@@ -144,7 +148,7 @@ module _ {J I O : Type 0} (P Q : Type 0) (h : Journals J) (received : I → Opti
         | inr untold ↦ unchanged part.last part.between new untold.1
       ]
 
-  in_turn_made : (leavers_first : Bool) (limit : ℕ) (opened : List (Opening I O)) (old new : Connector J) (before after : Option (List Done)) (result : Result Tally RunFault)
+  pub in_turn_made : (leavers_first : Bool) (limit : ℕ) (opened : List (Opening I O)) (old new : Connector J) (before after : Option (List Done)) (result : Result Tally RunFault)
       → PushesInTurn received posted h (keeping_at base) leavers_first limit opened old new before after result → Makes opened old.book new.book
   in_turn_made leavers_first limit opened old new before after result pushes = elim pushes [
     | inl some ↦ each_made limit some.0 opened old new before after result some.2
@@ -156,9 +160,9 @@ module _ {J I O : Type 0} (P Q : Type 0) (h : Journals J) (received : I → Opti
   abbrev offering : Row → Move I O P Q
   offering row = offers row
 
-  offered : (rows : List Row) (book : BookMap) → AllByRecursion IsRow rows → Does (map offering rows) None book (taking_all book rows)
-  offered [] book all = refl
-  offered (row ∷ rows) book all = (all.0, offered rows (taking book row) all.1)
+  offered : (rows : List Row) (book : BookMap) → AllByRecursion IsRow rows → Does (map offering rows) [] book (taking_all book rows)
+  offered [] book all = (refl, refl)
+  offered (row ∷ rows) book all = (refl, all.0, offered rows (taking book row) all.1)
 
   no_streams : (rows : List Row) (opened : List (Opening I O)) → AreAmong (streams_in (map offering rows)) opened
   no_streams [] opened = tt
@@ -182,7 +186,7 @@ module _ {J I O : Type 0} (P Q : Type 0) (h : Journals J) (received : I → Opti
   groups_made None old new before after result none all = unchanged [] old new none.0
   groups_made (Some source) old new before after result so all = file_made source.kind (records_of source) old new before after result so all
 
-  pub offers_made : (sources : Sources) (old new : Connector J) (before after : Option (List Judged)) (result : Result Bool RunFault)
+  offers_made : (sources : Sources) (old new : Connector J) (before after : Option (List Judged)) (result : Result Bool RunFault)
       → OffersAll h sources old new before after result → AllByRecursion IsRow (rows_of_files sources) → Makes [] old.book new.book
   offers_made sources old new before after result so all =
       let split = all_split IsRow (rows_in (records_of sources.users)) (rows_if sources.groups) all in
@@ -193,19 +197,15 @@ module _ {J I O : Type 0} (P Q : Type 0) (h : Journals J) (received : I → Opti
         | inr one ↦ file_made sources.users.kind (records_of sources.users) old new before after (Err one.0) one.1 split.0
       ]
 
-  -- ---- a push
+  -- ---- the rows, and then the exchanges
 
-  pub turn_made : {T : Type 0} (heard : T → Option (List Judged)) (told : T → Option (List Done)) (leavers_first : Bool) (limit : ℕ) (sources : Sources) (opened : List (Opening I O)) (old new : Connector J) (before after : T)
-      (result : Result Outcome RunFault) → CarriesBy (PushesInTurn received posted h (keeping_at base) leavers_first limit) h heard told sources opened old new before after result
-      → AllByRecursion IsRow (rows_of_files sources) → Makes opened old.book new.book
-  turn_made heard told leavers_first limit sources opened old new before after result carries all = elim carries [
+  pub carries_made : {T : Type 0} (pushes : List (Opening I O) → Connector J → Connector J → Option (List Done) → Option (List Done) → Result Tally RunFault → Type 0)
+      (made : (opened : List (Opening I O)) (old new : Connector J) (before after : Option (List Done)) (result : Result Tally RunFault) → pushes opened old new before after result → Makes opened old.book new.book)
+      (heard : T → Option (List Judged)) (told : T → Option (List Done)) (sources : Sources) (opened : List (Opening I O)) (old new : Connector J) (before after : T) (result : Result Outcome RunFault)
+      → CarriesBy pushes h heard told sources opened old new before after result → AllByRecursion IsRow (rows_of_files sources) → Makes opened old.book new.book
+  carries_made pushes made heard told sources opened old new before after result carries all = elim carries [
     | inl c ↦ both [] opened old.book c.0.book new.book
         (offers_made sources old c.0 (heard before) (heard c.1) (Ok c.2) c.4 all)
-        (in_turn_made leavers_first limit opened c.0 new (told c.1) (told after) c.3 c.5)
+        (made opened c.0 new (told c.1) (told after) c.3 c.5)
     | inr f ↦ on_streams opened [] old.book new.book f.1 (offers_made sources old new (heard before) (heard after) (Err f.0) f.2 all)
   ]
-
-  pub push_made : {T : Type 0} (heard : T → Option (List Judged)) (told : T → Option (List Done)) (sources : Sources) (opened : List (Opening I O)) (old new : Connector J) (before after : T)
-      (result : Result Outcome RunFault) → Carries received posted h heard told (keeping_at base) sources opened old new before after result
-      → AllByRecursion IsRow (rows_of_files sources) → Makes opened old.book new.book
-  push_made heard told sources opened old new before after result carries all = turn_made heard told false 0 sources opened old new before after result carries all

@@ -29,11 +29,9 @@ use Rattle.connector_core.proofs.Lessons.{again, learns_by_notes}
 use Rattle.connector_core.specs.declared.keeps.Keeps.TheVariants.{Revisions}
 use Rattle.provisioning.specs.Exchanges.{Becomes, Came, Learns, answered, lost, answer_in}
 use Rattle.world_model.specs.Safe.{Has}
-use Rattle.promise.specs.Abreast.{AreOver, FlightsAreExchanges, IsOver, ReopeningAfterSeveral}
-use Rattle.promise.specs.Calls.{BringsReply}
-use Rattle.promise.specs.Moves.{Asking}
-use Rattle.promise.specs.Traces.{LeavesBook as LeavesTaught, State, Step, Step.hears, Step.reopens, Trace, Trace.here, Trace.next}
-use Rattle.promise.proofs.Calls.{carried}
+use Rattle.promise.specs.Calls.{AreOver, Asking, BringsReply, FlightsAreExchanges, IsOver, ReopeningAfterSeveral}
+use Rattle.promise.specs.Traces.{LeavesBook as LeavesTaught, State, Step, Step.reopens, Trace, Trace.here, Trace.next}
+use Rattle.promise.proofs.Calls.{over_step}
 use Rattle.provisioning.proofs.AskedLemmas.{asked_of}
 use Rattle.provisioning.specs.Services.{keeping_at}
 
@@ -132,19 +130,7 @@ module _ {R J I O P Q : Type 0} (g : Registries R) (h : Journals J) (received : 
 
     module _ (e : Asking I O) (s t : Connector J) (has : Has mid.sent e.1.request) (brings : BringsReply received mid.written e.1.request e.1.reader) where
       over_to : IsOver h received posted base e s t → (book : BookMap) → LeavesTaught e.1.request e.1.came s t book → Step g h received posted remaining contents base (record mid { book = s.book }) (record mid { book = book })
-      over_to over book leaves = hears e.1.request book (record {
-        before = s;
-        after = t;
-        reader = e.1.reader;
-        writer = e.1.writer;
-        came = e.1.came;
-        asked = over.sent;
-        becomes = over.becomes;
-        was = refl;
-        leaves = leaves;
-        sent = has;
-        from = carried received mid.written e.1.request e.1.reader over.sent.left e.1.came over.sent.read brings;
-      })
+      over_to over book leaves = over_step g h received posted remaining contents base (record mid { book = s.book }) e s t over refl has brings book leaves
 
       stands_more : (came : Came) → e.1.came ≡ came → IsOver h received posted base e s t → Becomes h (keeping_at base) e.1.request came s t → h.is_honest t.journal → Stands s → Stands t
       stands_more (lost fault) is over same honest stands = subst Stands (sym same) stands

@@ -1,8 +1,7 @@
 -- Traces through resets are stories of the model; what `reset` does is a step of one.
 use Rattle.std.proofs.Common.{◌≡◌, ℕ, Bool, true, false, ◌||◌, ◌&&◌, cond, T, List, [], ◌∷◌, ◌++◌, Option, Some, None, map, refl, ap, sym, subst, ◌∙◌, inl, inr, append_assoc}
-use Rattle.std.proofs.lemmas.Bool.{cases_Bool}
 use Rattle.std.proofs.lemmas.List.{append-nil}
-use Rattle.std.specs.FinMap.{entries, entries_sorted, entries-from_sorted, from_entries, from_sorted, get, get-from_entries, get-from_sorted, get-insert, insert, is_sorted, keys, same_map}
+use Rattle.std.specs.FinMap.{entries, entries_sorted, entries-from_sorted, from_entries, from_sorted, get, get-from_entries, get-from_sorted, get-insert, is_sorted, keys, same_map}
 use Rattle.std.specs.FinMap.Entries.{below_all}
 use Rattle.std.specs.List.{AllByRecursion}
 use Rattle.std.specs.Option.{option_map}
@@ -21,10 +20,11 @@ use Rattle.journal_core.specs.Forgetting.{forgotten, unlearnt}
 use Rattle.journal_core.specs.declared.entries.Entry.{Entry}
 use Rattle.journal_core.specs.declared.journals.Journal.{Ghosts as Journals}
 use Rattle.journal_store.proofs.Forgetting.{forgets_only}
-use Rattle.journal_store.specs.Scopes.{after_reset, first_absent, forgotten_of, reset_of, unlearnt_at, unless_absent}
+use Rattle.journal_store.specs.Scopes.{after_reset, first_absent, forgotten_of, unlearnt_at, unless_absent}
 use Rattle.journal_store.specs.declared.scopes.Scope.{Scope}
 use Rattle.journal_store.specs.declared.scopes.Scope.TheVariants.{All, These}
 use Rattle.connector_core.proofs.Keeping.{names-put}
+use Rattle.connector_core.proofs.Lessons.{entry-again}
 use Rattle.connector_core.specs.Book.{Book}
 use Rattle.connector_core.specs.Changing.{names_of, taking_all}
 use Rattle.connector_core.specs.History.{History}
@@ -33,24 +33,24 @@ use Rattle.connector_core.specs.State.{AreOf, IsOpened, entry_of, opened}
 use Rattle.connector_core.specs.declared.knowledge.Known.{Known}
 use Rattle.world_model.specs.World.{World, Asked, Answered, empty}
 use Rattle.world_model.specs.Invariant.{AllOurs, Names, all_names}
-use Rattle.world_model.specs.Others.{Act, KeepsApart, run_among}
+use Rattle.world_model.specs.Others.{Act, KeepsApart}
 use Rattle.world_model.specs.Resetting.{Does, Forgets, Happening, IsLawfulHappening, StayApart, opened_after, reset_book, run_through, undergoes}
 use Rattle.world_model.specs.Room.{IsLawfulAct}
 use Rattle.world_model.proofs.Durable.{start_durable}
 use Rattle.world_model.proofs.InOrder.{empty_is_start}
 use Rattle.world_model.proofs.Resetting.{through_durable}
-use Rattle.world_model.proofs.Starting.{apart_early, headline_through_resets, through-append, without_resets}
+use Rattle.world_model.proofs.Starting.{headline_through_resets, through-append, without_resets}
 use Rattle.world_sim.proofs.Fitting.{messages_are_read_through}
 use Rattle.promise.specs.Calls.{history_all}
-use Rattle.promise.specs.Among.{StepAmong, StepAmong.mine, StepAmong.theirs}
+use Rattle.promise.specs.Among.{StepAmong.mine, StepAmong.theirs}
 use Rattle.promise.specs.AmongTyped as typed
 use Rattle.promise.specs.AmongTyped.{HasOurs}
-use Rattle.promise.specs.Resets.{AreRunsThrough, ClosingIsAStep, IsReset, ReopeningAfterAll, ResetsAreSteps, StepThrough, StepThrough.does, StepThrough.resets, TraceThrough, TraceThrough.here, TraceThrough.next, TracesThroughResets, reset_entry}
-use Rattle.promise.specs.Traces.{State, Step, Step.reopens, Trace, Trace.here as alone_here, Trace.next as alone_next, start}
+use Rattle.promise.specs.Resets.{ClosingIsAStep, IsReset, ReopeningAfterAll, ResetsAreSteps, StepThrough, StepThrough.does, StepThrough.resets, TraceThrough, TraceThrough.here, TraceThrough.next, TracesThroughResets, reset_entry}
+use Rattle.promise.specs.Traces.{State, Step.reopens, Trace, Trace.here as alone_here, Trace.next as alone_next, start}
 use Rattle.promise.specs.Typed as own
-use Rattle.promise.proofs.AmongTraces.{GoesAmong, all_mine, mine_keeps, mine_named, promised_among, theirs_step}
+use Rattle.promise.proofs.AmongTraces.{GoesAmong, mine_keeps, mine_named, promised_among, theirs_step}
 use Rattle.promise.proofs.AmongTyped.{Keeps, ran, rows_ours}
-use Rattle.promise.proofs.Calls.{offers_are_steps}
+use Rattle.promise.proofs.Calls.{entries_of, offers_are_steps}
 use Rattle.promise.proofs.Lists.{all_both}
 use Rattle.promise.proofs.Traces.{IsRead, Settles, Spoken, goes, mirrored, spoken_start}
 use Rattle.promise.proofs.Typed.{at_start, keys-empty, rebooked}
@@ -99,16 +99,6 @@ stays_so (Some e) = refl
 none_reset : (m : EntryMap) → IsReset (λ q. false) m m
 none_reset m = record { entries = λ q. stays_so (get m q); names = refl }
 
--- what is put back where it was changes nothing
-put_back : (m : EntryMap) (name : RecordName) (e : Entry) → get m name ≡ Some e → insert m name e ≡ m
-put_back m name e there = same_map names_total names_same (insert m name e) m (λ q. get-insert names_total m name e q ∙ same q)
-  where
-    same : (q : RecordName) → cond (is_eq (name_cmp q name)) (Some e) (get m q) ≡ get m q
-    same q = elim (cases_Bool (is_eq (name_cmp q name))) [
-      | inl is ↦ ap (λ (b : Bool). cond b (Some e) (get m q)) is ∙ sym (ap (get m) ((same_names q name).0 (sym (tied q name) ∙ is)) ∙ there)
-      | inr not ↦ ap (λ (b : Bool). cond b (Some e) (get m q)) not
-    ]
-
 unlearnt_if : (b : Bool) (o : Option Entry) (e : Entry) → (b ≡ true → o ≡ Some e) → cond b (Some (unlearnt e)) o ≡ option_map (reset_entry b) o
 unlearnt_if true o e is = sym (ap (option_map (reset_entry true)) (is refl))
 unlearnt_if false o e is = stays_so o
@@ -120,7 +110,7 @@ one_reset m name (Some e) there = (
   record {
     entries = λ q. get-insert names_total m name (unlearnt e) q
         ∙ unlearnt_if (is_eq (name_cmp q name)) (get m q) e (λ is. ap (get m) ((same_names q name).0 (sym (tied q name) ∙ is)) ∙ there);
-    names = names-put m name (unlearnt e) ∙ sym (names-put m name e) ∙ ap keys (put_back m name e there);
+    names = names-put m name (unlearnt e) ∙ sym (names-put m name e) ∙ ap keys (entry-again m name e there);
   },
 )
 
@@ -167,9 +157,6 @@ reset_mirrors old w m these found kept book are reset is =
     same : (name : RecordName) → book_of book name ≡ reset_book these w.book name
     same name = is.entries name ∙ ap (option_map opened) (reset.entries name ∙ ap (option_map (reset_entry (these name))) (are.same name)) ∙ opened_so (these name) (book_of old.book name)
         ∙ ap (λ (b : Book). reset_book these b name) m.book
-
-entries_so : (found : EntryMap) (book other : BookMap) → book ≡ other → AreOf found (book_of book) (keys book) → AreOf found (book_of other) (keys other)
-entries_so found book other same are = subst (λ (b : BookMap). AreOf found (book_of b) (keys b)) same are
 
 -- ---- a story that the state mirrors
 
@@ -281,7 +268,7 @@ module _ {R J I O P Q : Type 0} (g : Registries R) (h : Journals J) (received : 
       one : (old new : State) (story : List Happening) → AllOurs ours new.history → Told base ours old story → One old new → ToldOn base ours new story
       one old new story all a (does (mine step)) =
           let on = goes base is_base a.state (read_through base ours is_base old story a) old a.spoken g h received posted remaining contents settled new step in
-          by_acts base ours is_base old new story a all (record { later = on.later; trace = all_mine ours a.state on.later on.trace; spoken = on.spoken })
+          by_acts base ours is_base old new story a all (record { later = on.later; trace = typed.next typed.here (typed.mine on.step); spoken = on.spoken })
       one old new story all a (does (theirs rows s)) =
           by_acts base ours is_base old new story a all (theirs_step base ours old a.state a.spoken g h received posted remaining contents settled rows s)
       one old new story all a (resets these found kept book are reset is) = by_reset base ours is_base old story a these found kept book are reset is
@@ -322,11 +309,11 @@ module _ {R J I O P Q : Type 0} (g : Registries R) (h : Journals J) (received : 
   pub resets_are_steps : ResetsAreSteps g h received posted remaining contents
   resets_are_steps base ours old last was left scope found kept book may is opened =
       let (these, reset) = scope_reset scope found in
-      resets these found kept book (entries_so found last.book old.book was (left found may)) (subst (IsReset these found) (sym is) reset) opened
+      resets these found kept book (entries_of g h received posted remaining contents found last.book old.book was (left found may)) (subst (IsReset these found) (sym is) reset) opened
 
   pub closing_is_a_step : ClosingIsAStep g h received posted remaining contents
   closing_is_a_step base old last was kept book opened =
-      reopens (h.entries last.journal) book (entries_so (h.entries last.journal) last.book old.book was (record { same = kept.same; listed = kept.names })) opened
+      reopens (h.entries last.journal) book (entries_of g h received posted remaining contents (h.entries last.journal) last.book old.book was (record { same = kept.same; listed = kept.names })) opened
 
   -- the rows were accepted, and the connector is opened over that
   all_taken : (base : List ℕ) (old : State) (rows : List Row) → AllByRecursion IsRow rows → (found : EntryMap) (book : BookMap) → AreOf found (book_of (taking_all old.book rows)) (keys (taking_all old.book rows))
@@ -336,8 +323,8 @@ module _ {R J I O P Q : Type 0} (g : Registries R) (h : Journals J) (received : 
 
   pub reopening_after_all : ReopeningAfterAll g h received posted remaining contents
   reopening_after_all base old before after rows law was (inl done) found book may opened =
-      all_taken base old rows law found book (entries_so found after.book (taking_all old.book rows) (done.0 ∙ ap (λ (b : BookMap). taking_all b rows) was) (done.1 found may)) opened
+      all_taken base old rows law found book (entries_of g h received posted remaining contents found after.book (taking_all old.book rows) (done.0 ∙ ap (λ (b : BookMap). taking_all b rows) was) (done.1 found may)) opened
   reopening_after_all base old before after rows law was (inr leaves) found book may opened = elim (leaves found may) [
-    | inl are ↦ (old.history, alone_next alone_here (reopens found book (entries_so found before.book old.book was are) opened))
-    | inr are ↦ all_taken base old rows law found book (entries_so found (taking_all before.book rows) (taking_all old.book rows) (ap (λ (b : BookMap). taking_all b rows) was) are) opened
+    | inl are ↦ (old.history, alone_next alone_here (reopens found book (entries_of g h received posted remaining contents found before.book old.book was are) opened))
+    | inr are ↦ all_taken base old rows law found book (entries_of g h received posted remaining contents found (taking_all before.book rows) (taking_all old.book rows) (ap (λ (b : BookMap). taking_all b rows) was) are) opened
   ]

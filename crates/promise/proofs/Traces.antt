@@ -30,7 +30,7 @@ use Rattle.scim_client.specs.Exchanges.{Reads}
 use Rattle.scim_client.specs.Requests.{text_of}
 use Rattle.scim_client.specs.Spelling.{SpellsRequest}
 use Rattle.connection.specs.Reactions.{reaction_to}
-use Rattle.connection.specs.Serving.{AnswersFault, AnswersMeaning, AnswersMessage, AnswersRequest, GivesUp, HasReply, IsAfter, IsUnharmed, LeavesRows, Replies, RepliesTo, reply_text}
+use Rattle.connection.specs.Serving.{AnswersFault, AnswersMeaning, AnswersMessage, AnswersRequest, GivesUp, HasReply, IsUnharmed, LeavesRows, Replies, RepliesTo, reply_text}
 use Rattle.journal_core.specs.Entries.{EntryMap}
 use Rattle.journal_core.specs.declared.journals.Journal.{Ghosts as Journals}
 use Rattle.connector_core.specs.Book.{doubted}
@@ -44,20 +44,16 @@ use Rattle.connector_core.specs.declared.learning.Learnt.{Learnt}
 use Rattle.connector_core.specs.declared.learning.LearnFault.{LearnFault}
 use Rattle.provisioning.specs.Exchanges.{Becomes, Came, answered, lost, answer_in as answer_of}
 use Rattle.provisioning.specs.Services.{keeping_at}
-use Rattle.world_model.specs.World.{World, Asked, Answered, empty, run}
+use Rattle.world_model.specs.World.{World, Asked, Answered}
 use Rattle.world_model.proofs.Durable.{AskedFairly}
-use Rattle.world_model.proofs.Invariant.{always_inv}
 use Rattle.world_model.specs.Safe.{Has, IsPrefixOf}
 use Rattle.world_sim.specs.Fitting.{IsFormed}
-use Rattle.world_sim.proofs.Fitting.{messages_are_read}
-use Rattle.world_sim.proofs.Given.{asked_fairly}
-use Rattle.promise.specs.Traces.{CameFrom, Hears, IsAt, IsAtFront, LeavesBook, Serves, State, Step, Step.offers, Step.asks, Step.serves, Step.hears, Step.doubts, Step.reopens, Step.rests, Trace, Trace.here, Trace.next, TracesAreRuns, Written, start}
+use Rattle.promise.specs.Traces.{CameFrom, Finds, Hears, IsAt, IsAtFront, LeavesBook, Serves, State, Step, Step.offers, Step.asks, Step.serves, Step.hears, Step.doubts, Step.reopens, Step.rests, Written, start}
 use Rattle.promise.specs.Typed as typed
 use Rattle.promise.proofs.Bytes.{one_request_message, one_response_message, part_of_part, without_body}
 use Rattle.promise.proofs.Errors.{IsReadable, error_is_read, fixed_readable, refusal_readable}
 use Rattle.promise.proofs.Lists.{each_more, has_last, has_more}
-use Rattle.promise.proofs.Promises.{promised}
-use Rattle.promise.proofs.Typed.{at_start, other_error, traced, typed_traces_are_runs}
+use Rattle.promise.proofs.Typed.{other_error}
 
 -- ---- what was written, as answers
 
@@ -88,6 +84,50 @@ says_nothing base replies request = says_fixed base replies request [] (fixed_te
 abbrev pub Settles : {R : Type 0} → Registries R → Type 0
 Settles {R} g = (s : R) (found : List StoredRecord) → g.is_faithful s → g.may_hold s found → found ≡ g.rows s
 
+-- ---- what a connection did
+
+module _ {R : Type 0} (g : Registries R) (settled : Settles g) (base : List ℕ) (before after : R) (rows : List StoredRecord) (finds : Finds g before after rows) where
+  abbrev Carries_out : Request → Type 0
+  Carries_out request = rows ≡ changed_rows (g.rows before) (outcome (g.rows before) request).change
+
+  -- what the next opening finds after this message and this reply: the rows as they were, or those after what the message asks for
+  pub data Did (m : Message) (reply : ReplyRecord) : Type 0 where
+    gave_up : reply ≡ fixed_reply → rows ≡ g.rows before → Did m reply
+    refused : (refusal : Refusal) → Asks m (Err refusal) → rows ≡ g.rows before → Did m reply
+    answered_it : (request : Request) → Asks m (Ok request) → g.is_faithful after → AnswersRequest (g.is_faithful after) base (g.rows before) (g.rows after) (is_head m.head) request reply
+        → Carries_out request → Did m reply
+    stopped : (request : Request) → Asks m (Ok request) → reply ≡ fixed_reply → Carries_out request → Did m reply
+
+  meant_so : (m : Message) (reply : ReplyRecord) (meaning : Result Request Refusal) → Asks m meaning → g.is_faithful after → rows ≡ g.rows after
+      → AnswersMeaning (g.is_faithful after) base (g.rows before) (g.rows after) (is_head m.head) meaning reply → Did m reply
+  meant_so m reply (Ok request) means faithful kept is = answered_it request means faithful is (kept ∙ is.rows faithful)
+  meant_so m reply (Err refusal) means faithful kept is = refused refusal means (kept ∙ is.rows)
+
+  pub did : (m : Message) (reply : ReplyRecord) → LeavesRows g before after (Ok m)
+      → (AnswersMessage (g.is_faithful after) base (g.rows before) (g.rows after) m reply × IsUnharmed g before after) ⊎ GivesUp (g.is_faithful after) (g.rows before) (g.rows after) reply → Did m reply
+  did m reply leaves says = elim finds [
+    | inl kept ↦ elim says [
+      | inl answers ↦ meant_so m reply answers.0.asked answers.0.asked_is kept.0 kept.1 answers.0.answer
+      | inr gives_up ↦ gave_up gives_up.reply_is (kept.1 ∙ gives_up.rows kept.0)
+    ]
+    | inr found ↦ elim says [
+      | inl answers ↦
+          let still = answers.1.stays_open found.1 found.0 in
+          meant_so m reply answers.0.asked answers.0.asked_is still (settled after rows still found.2) answers.0.answer
+      | inr gives_up ↦ elim (leaves.stop found.1 rows found.2) [
+        | inl held ↦ gave_up gives_up.reply_is (settled before rows found.0 held)
+        | inr after_it ↦ stopped after_it.1.0 after_it.1.1 gives_up.reply_is after_it.1.2
+      ]
+    ]
+  ]
+
+  -- a fault of reading left the rows as they were
+  pub unread : after ≡ before → rows ≡ g.rows before
+  unread same = elim finds [
+    | inl kept ↦ kept.1 ∙ ap g.rows same
+    | inr found ↦ settled before rows found.0 (subst (λ (r : R). g.may_hold r rows) same found.2)
+  ]
+
 -- ---- the two states
 
 -- the trace of requests and answers that a trace over bytes makes
@@ -99,10 +139,10 @@ pub record Spoken (base : List ℕ) (s : State) (u : typed.State) : Type 0 where
   pub formed : (request : Request) → Has s.sent request → IsFormed base (Asked request)
   pub written : (w : Written) → Has s.written w → Says base u.replies w.0 w.1
 
--- it goes on
+-- it goes on by one step
 pub record Goes (base : List ℕ) (u : typed.State) (t : State) : Type 0 where
   pub later : typed.State
-  pub trace : typed.Trace u later
+  pub step : typed.Step u later
   pub spoken : Spoken base t later
 
 -- ---- the provider
@@ -152,6 +192,9 @@ module _ (base : List ℕ) (replies : List typed.Reply) (request : Request) (out
     reacted reads.OutOfMemory is = fixed_sent is.0 is.2 (sent_part_of is.0 is.1)
     reacted reads.TurnsExhausted is = silent is
 
+pub same_request : (x asked : Request) → ◌≡◌ {A = Result Request Refusal} (Ok asked) (Ok x) → asked ≡ x
+same_request x asked is = cc
+
 -- what a message means that is at the front of the text of a request
 pub meant : (m : Message) (text : List ℕ) (request : Request) → IsAtFront IsRequestMessage text m → SpellsRequest text request → Asks m (Ok request)
 meant m text request front spells = subst (λ n. Asks n (Ok request)) (sym (one_request_message text m spells.message front spells.is)) spells.asks
@@ -198,7 +241,7 @@ module _ (base : List ℕ) (is_base : IsBase base) (u : typed.State) (said : IsR
         → Goes base u (record old { rows = rows; written = old.written ++ (request, out) ∷ [] })
     quiet request rows out same says = record {
       later = u;
-      trace = typed.here;
+      step = typed.rests;
       spoken = record {
         rows = same ∙ spoken.rows;
         history = spoken.history;
@@ -215,7 +258,7 @@ module _ (base : List ℕ) (is_base : IsBase base) (u : typed.State) (said : IsR
         → Goes base u (record old { rows = rows; written = old.written ++ (request, out) ∷ [] })
     carried_out request rows out has done says = record {
       later = record u { rows = changed_rows u.rows (outcome u.rows request).change; replies = u.replies ++ (request, (outcome u.rows request).answer) ∷ [] };
-      trace = typed.next typed.here (typed.answers request (subst (λ sent. Has sent request) spoken.sent has));
+      step = typed.answers request (subst (λ sent. Has sent request) spoken.sent has);
       spoken = record {
         rows = done ∙ ap (λ rows. changed_rows rows (outcome rows request).change) spoken.rows;
         history = spoken.history;
@@ -236,80 +279,42 @@ module _ (base : List ℕ) (is_base : IsBase base) (u : typed.State) (said : IsR
         asks_for : (m : Message) → IsAtFront IsRequestMessage (text_of base request) m → Asks m (Ok request)
         asks_for m front = meant m (text_of base request) request front (said.spelled request (subst (λ sent. Has sent request) spoken.sent s.sent) (spoken.formed request s.sent))
 
-        answered_so : (m : Message) (reply : ReplyRecord) → g.is_faithful s.after → rows ≡ g.rows s.after
-            → AnswersRequest (g.is_faithful s.after) base (g.rows s.before) (g.rows s.after) (is_head m.head) request reply
-            → IsPrefixOf out reply.text → Goes base u after_serving
-        answered_so m reply faithful kept is part =
-            let done : rows ≡ changed_rows old.rows (outcome old.rows request).change = kept ∙ is.rows faithful ∙ ap (λ r. changed_rows r (outcome r request).change) s.was in
+        done_so : (asked : Request) → asked ≡ request → rows ≡ changed_rows (g.rows s.before) (outcome (g.rows s.before) asked).change → rows ≡ changed_rows old.rows (outcome old.rows request).change
+        done_so asked same done =
+            subst (λ (r : Request). rows ≡ changed_rows (g.rows s.before) (outcome (g.rows s.before) r).change) same done ∙ ap (λ r. changed_rows r (outcome r request).change) s.was
+
+        answered_so : (m : Message) (reply : ReplyRecord) → g.is_faithful s.after → AnswersRequest (g.is_faithful s.after) base (g.rows s.before) (g.rows s.after) (is_head m.head) request reply
+            → rows ≡ changed_rows old.rows (outcome old.rows request).change → IsPrefixOf out reply.text → Goes base u after_serving
+        answered_so m reply faithful is done part =
             let same : is.answer ≡ (outcome u.rows request).answer = is.answer_is faithful ∙ ap (λ r. (outcome r request).answer) (s.was ∙ spoken.rows) in
             let formed : IsFormed base (Answered request (outcome u.rows request).answer) = subst (λ (a : Answer). IsFormed base (Answered request a)) same (is.lawful, is.utf8) in
             let text : reply.text ≡ answer_text base (is_head m.head) (outcome u.rows request).answer =
             ap (λ (r : ReplyRecord). r.text) is.reply_is ∙ ap (λ (a : Answer). answer_text base (is_head m.head) a) same in
-            let replies = u.replies ++ (request, (outcome u.rows request).answer) ∷ [] in
             carried_out request rows out s.sent done
             (by_answer (outcome u.rows request).answer (has_last u.replies (request, (outcome u.rows request).answer)) formed
             (part_of_part out reply.text (answer_text base false (outcome u.rows request).answer) part
             (subst (λ (t : List ℕ). IsPrefixOf t (answer_text base false (outcome u.rows request).answer)) (sym text) (without_body base (is_head m.head) (outcome u.rows request).answer))))
 
-        -- the reply gives up, and the rows are as they were
-        gave_up : (reply : ReplyRecord) → reply ≡ fixed_reply → rows ≡ g.rows s.before → IsPrefixOf out reply.text → Goes base u after_serving
-        gave_up reply fixed same part = quiet request rows out (same ∙ s.was) (fixed_sent base u.replies request out reply fixed part)
+        abbrev Does : Message → ReplyRecord → Type 0
+        Does m reply = Did g settled base s.before s.after rows s.finds m reply
 
-        abbrev Answers : Message → ReplyRecord → Type 0
-        Answers m reply = AnswersMessage (g.is_faithful s.after) base (g.rows s.before) (g.rows s.after) m reply
-
-        answered_open : (m : Message) (reply : ReplyRecord) → IsAtFront IsRequestMessage (text_of base request) m → g.is_faithful s.after → rows ≡ g.rows s.after → Answers m reply → IsPrefixOf out reply.text
-            → Goes base u after_serving
-        answered_open m reply front faithful kept message part =
-            let same : message.asked ≡ Ok request = one_meaning m message.asked (Ok request) message.asked_is (asks_for m front) in
-            answered_so m reply faithful kept
-            (subst (λ (x : Result Request Refusal). AnswersMeaning (g.is_faithful s.after) base (g.rows s.before) (g.rows s.after) (is_head m.head) x reply) same message.answer) part
-
-        -- what the next opening finds of a store that a fault may have shut: the rows as they were, or as the request
-        -- makes them
-        shut_rows : (m : Message) (reply : ReplyRecord) → IsAtFront IsRequestMessage (text_of base request) m → LeavesRows g s.before s.after (Ok m) → g.is_faithful s.before → g.is_honest s.after → g.may_hold s.after rows
-            → reply ≡ fixed_reply → IsPrefixOf out reply.text → Goes base u after_serving
-        shut_rows m reply front leaves was_faithful honest may fixed part = elim (leaves.stop honest rows may) [
-          | inl held ↦ gave_up reply fixed (settled s.before rows was_faithful held) part
-          | inr after_it ↦ shut_after m reply front after_it.1 fixed part
-        ]
-          where
-            shut_after : (m : Message) (reply : ReplyRecord) → IsAtFront IsRequestMessage (text_of base request) m → IsAfter (g.rows s.before) (Ok m) rows → reply ≡ fixed_reply → IsPrefixOf out reply.text → Goes base u after_serving
-            shut_after m reply front after fixed part =
-                let e : ◌≡◌ {A = Result Request Refusal} (Ok after.0) (Ok request) = one_meaning m (Ok after.0) (Ok request) after.1 (asks_for m front) in
-                let same : after.0 ≡ request = cc in
-                let done : rows ≡ changed_rows (g.rows s.before) (outcome (g.rows s.before) request).change = subst (λ (r : Request). rows ≡ changed_rows (g.rows s.before) (outcome (g.rows s.before) r).change) same after.2 in
-                carried_out request rows out s.sent (done ∙ ap (λ r. changed_rows r (outcome r request).change) s.was)
-                (says_more base u.replies ((request, (outcome u.rows request).answer) ∷ []) request out (fixed_sent base u.replies request out reply fixed part))
-
-        served_message : (m : Message) (reply : ReplyRecord) → IsAtFront IsRequestMessage (text_of base request) m → LeavesRows g s.before s.after (Ok m)
-            → (Answers m reply × IsUnharmed g s.before s.after) ⊎ GivesUp (g.is_faithful s.after) (g.rows s.before) (g.rows s.after) reply → IsPrefixOf out reply.text → Goes base u after_serving
-        served_message m reply front leaves says part = elim (s.finds) [
-          | inl kept ↦ elim says [
-            | inl answers ↦ answered_open m reply front kept.0 kept.1 answers.0 part
-            | inr gives_up ↦ gave_up reply gives_up.reply_is (kept.1 ∙ gives_up.rows kept.0) part
-          ]
-          | inr found ↦ elim says [
-            | inl answers ↦
-                let still = answers.1.stays_open found.1 found.0 in
-                answered_open m reply front still (settled s.after rows still found.2) answers.0 part
-            | inr gives_up ↦ shut_rows m reply front leaves found.0 found.1 found.2 gives_up.reply_is part
-          ]
-        ]
-
-        -- a fault of reading left the store as it was
-        unread : (reply : Option ReplyRecord) (fault : ReadFault) → RepliesTo base (reaction_to fault) reply × (s.after ≡ s.before) → IsPrefixOf out (reply_text reply) → Goes base u after_serving
-        unread reply fault replies part =
-            let same : rows ≡ g.rows s.before = elim (s.finds) [
-              | inl kept ↦ kept.1 ∙ ap g.rows replies.1
-              | inr found ↦ settled s.before rows found.0 (subst (λ (r : R). g.may_hold r rows) replies.1 found.2)
-            ] in
-            quiet request rows out (same ∙ s.was) (reacted base u.replies request out reply part fault replies.0)
+        served_message : (m : Message) (reply : ReplyRecord) → IsAtFront IsRequestMessage (text_of base request) m → Does m reply → IsPrefixOf out reply.text → Goes base u after_serving
+        served_message m reply front (gave_up fixed same) part = quiet request rows out (same ∙ s.was) (fixed_sent base u.replies request out reply fixed part)
+        served_message m reply front (refused refusal means same) part =
+            let never : ◌≡◌ {A = Result Request Refusal} (Err refusal) (Ok request) = one_meaning m (Err refusal) (Ok request) means (asks_for m front) in absurd (cc)
+        served_message m reply front (answered_it asked means faithful is done) part =
+            let same = same_request request asked (one_meaning m (Ok asked) (Ok request) means (asks_for m front)) in
+            answered_so m reply faithful (subst (λ (r : Request). AnswersRequest (g.is_faithful s.after) base (g.rows s.before) (g.rows s.after) (is_head m.head) r reply) same is) (done_so asked same done) part
+        served_message m reply front (stopped asked means fixed done) part =
+            carried_out request rows out s.sent (done_so asked (same_request request asked (one_meaning m (Ok asked) (Ok request) means (asks_for m front))) done)
+            (says_more base u.replies ((request, (outcome u.rows request).answer) ∷ []) request out (fixed_sent base u.replies request out reply fixed part))
 
         by_read : (read : Result Message ReadFault) (reply : Option ReplyRecord) → IfOk read (IsAtFront IsRequestMessage (text_of base request)) → Replies g base s.before s.after read reply → LeavesRows g s.before s.after read
             → IsPrefixOf out (reply_text reply) → Goes base u after_serving
-        by_read (Ok m) reply front replies leaves part = served_message m replies.0 front leaves replies.2 (sent_part_of base u.replies request out reply part replies.0 replies.1)
-        by_read (Err fault) reply front replies leaves part = unread reply fault replies part
+        by_read (Ok m) reply front replies leaves part =
+            served_message m replies.0 front (did g settled base s.before s.after rows s.finds m replies.0 leaves replies.2) (sent_part_of base u.replies request out reply part replies.0 replies.1)
+        by_read (Err fault) reply front replies leaves part =
+            quiet request rows out (unread g settled base s.before s.after rows s.finds replies.1 ∙ s.was) (reacted base u.replies request out reply part fault replies.0)
 
         served_step : Goes base u after_serving
         served_step = by_read s.is.replied.read s.is.replied.reply s.came s.is.replied.replies s.is.replied.leaves s.wrote
@@ -324,7 +329,7 @@ module _ (base : List ℕ) (is_base : IsBase base) (u : typed.State) (said : IsR
         unchanged : book ≡ old.book → Goes base u after_hearing
         unchanged same = record {
           later = u;
-          trace = typed.here;
+          step = typed.rests;
           spoken = record { rows = spoken.rows; history = spoken.history; book = same ∙ spoken.book; sent = spoken.sent; formed = spoken.formed; written = spoken.written };
         }
 
@@ -332,7 +337,7 @@ module _ (base : List ℕ) (is_base : IsBase base) (u : typed.State) (said : IsR
         rebooked : typed.Step u (record u { book = book }) → Goes base u after_hearing
         rebooked step = record {
           later = record u { book = book };
-          trace = typed.next typed.here step;
+          step = step;
           spoken = record { rows = spoken.rows; history = spoken.history; book = refl; sent = spoken.sent; formed = spoken.formed; written = spoken.written };
         }
 
@@ -406,7 +411,7 @@ module _ (base : List ℕ) (is_base : IsBase base) (u : typed.State) (said : IsR
       pub goes : (new : State) → Step g h received posted remaining contents base old new → Goes base u new
       goes new (offers row law) = record {
         later = _;
-        trace = typed.next typed.here (typed.offers row law);
+        step = typed.offers row law;
         spoken = record {
           rows = spoken.rows;
           history = ap (λ x. history_after x row (judged old.book row)) spoken.history ∙ ap (λ (b : BookMap). history_after u.history row (judged b row)) spoken.book;
@@ -418,7 +423,7 @@ module _ (base : List ℕ) (is_base : IsBase base) (u : typed.State) (said : IsR
       }
       goes new (asks name request is formed) = record {
         later = _;
-        trace = typed.next typed.here (typed.asks name request (ap (λ (b : BookMap). asking (book_of b) name) (sym spoken.book) ∙ is));
+        step = typed.asks name request (ap (λ (b : BookMap). asking (book_of b) name) (sym spoken.book) ∙ is);
         spoken = record {
           rows = spoken.rows;
           history = spoken.history;
@@ -432,30 +437,17 @@ module _ (base : List ℕ) (is_base : IsBase base) (u : typed.State) (said : IsR
       goes new (hears request book x) = hearing_step request book x
       goes new (doubts name book is names) = record {
         later = record u { book = book };
-        trace = typed.next typed.here (typed.doubts name book (is ∙ ap (λ (b : BookMap). doubted (book_of b) name) spoken.book) (names ∙ ap keys spoken.book));
+        step = typed.doubts name book (is ∙ ap (λ (b : BookMap). doubted (book_of b) name) spoken.book) (names ∙ ap keys spoken.book);
         spoken = record { rows = spoken.rows; history = spoken.history; book = refl; sent = spoken.sent; formed = spoken.formed; written = spoken.written };
       }
       goes new (reopens found book are is) = record {
         later = record u { book = book };
-        trace = typed.next typed.here (typed.reopens found book (subst (λ (b : BookMap). AreOf found (book_of b) (keys b)) spoken.book are) is);
+        step = typed.reopens found book (subst (λ (b : BookMap). AreOf found (book_of b) (keys b)) spoken.book are) is;
         spoken = record { rows = spoken.rows; history = spoken.history; book = refl; sent = spoken.sent; formed = spoken.formed; written = spoken.written };
       }
-      goes new rests = record { later = u; trace = typed.here; spoken = spoken }
+      goes new rests = record { later = u; step = typed.rests; spoken = spoken }
 
--- ---- every trace
-
--- in a run that the trace makes
-read_so : (base : List ℕ) (u : typed.State) → IsBase base → typed.Trace typed.start u → IsRead base u
-read_so base u is_base trace =
-    let ran = traced typed.start u empty trace at_start in
-    let w = run empty ran.events in
-    record {
-      history = w.history;
-      entries = w.entries;
-      asked = λ request has. let there = ran.mirrors.sent request has in asked_fairly w.history w.entries request ((always_inv ran.events).told there.0 (Asked request) there.1);
-      spelled = λ request has formed. messages_are_read base ran.events (Asked request) is_base ran.lawful (ran.mirrors.sent request has) formed;
-      answers = λ request answer has formed. messages_are_read base ran.events (Answered request answer) is_base ran.lawful (ran.mirrors.replies (request, answer) has) formed;
-    }
+-- ---- a state and a world
 
 -- the worlds that the second mirrors have the first's rows, history and book
 pub mirrored : (base : List ℕ) (s : State) (u : typed.State) (w : World) → Spoken base s u → typed.Mirrors u w → IsAt s w
@@ -463,32 +455,3 @@ mirrored base s u w spoken m = record { rows = spoken.rows ∙ m.rows; history =
 
 pub spoken_start : (base : List ℕ) → Spoken base start typed.start
 spoken_start base = record { rows = refl; history = refl; book = refl; sent = refl; formed = λ request has. absurd (cc has.1); written = λ w has. absurd (cc has.1) }
-
-and_then : (a b c : typed.State) → typed.Trace a b → typed.Trace b c → typed.Trace a c
-and_then a b c first typed.here = first
-and_then a b c first (typed.next {mid = mid} more step) = typed.next (and_then a b mid first more) step
-
-module _ {R J I O P Q : Type 0} (g : Registries R) (h : Journals J) (received : I → Option (List ℕ)) (posted : O → Option (List ℕ)) (remaining : P → Option (List ℕ)) (contents : Q → Option (List ℕ)) (settled : Settles g) where
-  along : (base : List ℕ) (old new : State) (u : typed.State) → IsBase base → typed.Trace typed.start u → Spoken base old u → Trace g h received posted remaining contents base old new → Goes base u new
-  along base old new u is_base trace spoken here = record { later = u; trace = typed.here; spoken = spoken }
-  along base old new u is_base trace spoken (next {mid = mid} more step) =
-      let first = along base old mid u is_base trace spoken more in
-      let last = goes base is_base first.later (read_so base first.later is_base (and_then typed.start u first.later trace first.trace)) mid first.spoken g h received posted remaining contents settled new step in
-      record { later = last.later; trace = and_then u first.later last.later first.trace last.trace; spoken = last.spoken }
-
-  pub traces_are_runs : TracesAreRuns g h received posted remaining contents
-  traces_are_runs base s t is_base trace more =
-      let first = along base start s typed.start is_base typed.here (spoken_start base) trace in
-      let last = along base s t first.later is_base first.trace first.spoken more in
-      let runs = typed_traces_are_runs first.later last.later first.trace last.trace in
-      let before = mirrored base s first.later (run empty runs.early) first.spoken runs.before in
-      let after = mirrored base t last.later (run empty (runs.early ++ runs.late)) last.spoken runs.after in
-      record {
-        early = runs.early;
-        late = runs.late;
-        lawful = runs.lawful;
-        before = before;
-        after = after;
-        headline = runs.headline;
-        promised = promised runs.early runs.late s.history s.rows (book_of s.book) t.rows before.history before.rows before.book after.rows runs.headline;
-      }

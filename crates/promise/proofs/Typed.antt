@@ -40,9 +40,8 @@ use Rattle.connector_core.proofs.LawProofs.{maps_accept}
 use Rattle.world_model.specs.World.{World, Message, Asked, Answered, Event, Changes, Sends, Delivers, Doubts, Restarts_connector, arrives, changes, delivers, empty, happens, judged as world_judged, run, sends}
 use Rattle.world_model.specs.Safe.{Has}
 use Rattle.world_model.specs.Untroubled.{IsLawful}
-use Rattle.world_model.proofs.Headlines.{headline_holds}
-use Rattle.promise.specs.Typed.{IsOtherError, Mirrors, Reply, State, Step, Step.offers, Step.asks, Step.answers, Step.learns, Step.refused, Step.doubts, Step.reopens, Step.relearns, Step.rests, Trace, Trace.here, Trace.next, TypedTracesAreRuns, start}
-use Rattle.promise.proofs.Lists.{all_both, each_more, has_last, has_more}
+use Rattle.promise.specs.Typed.{IsOtherError, Mirrors, Reply, State, Step, Step.offers, Step.asks, Step.answers, Step.learns, Step.refused, Step.doubts, Step.reopens, Step.relearns, Step.rests, start}
+use Rattle.promise.proofs.Lists.{each_more, has_last, has_more}
 
 -- ---- the names of the records
 
@@ -214,22 +213,7 @@ leads old new w (reopens found book are is) m = one old w m Restarts_connector _
 leads old new w (relearns request answer found book has are is) m = relearnt old w m request answer found book has are is
 leads old new w rests m = stays old w m
 
--- ---- every trace
-
-run-append : (w : World) (early late : List Event) → run w (early ++ late) ≡ run (run w early) late
-run-append w [] late = refl
-run-append w (event ∷ early) late = run-append (happens w event) early late
-
-pub traced : (old new : State) (w : World) → Trace old new → Mirrors old w → Leads w new
-traced old new w here m = stays old w m
-traced old new w (next {mid = mid} trace step) m =
-    let first = traced old mid w trace m in
-    let last = leads mid new (run w first.events) step first.mirrors in
-    record {
-      events = first.events ++ last.events;
-      lawful = all_both IsLawful first.events last.events first.lawful last.lawful;
-      mirrors = subst (Mirrors new) (sym (run-append w first.events last.events)) last.mirrors;
-    }
+-- ---- the start
 
 nothing : {X Y : Type 0} (f : X → Y) (xs : List X) → length xs ≡ 0 → map f xs ≡ []
 nothing f [] none = refl
@@ -248,16 +232,3 @@ at_start = record {
   sent = λ request has. absurd (cc has.1);
   replies = λ reply has. absurd (cc has.1);
 }
-
-pub typed_traces_are_runs : TypedTracesAreRuns
-typed_traces_are_runs s t trace more =
-    let first = traced start s empty trace at_start in
-    let then_ = traced s t (run empty first.events) more first.mirrors in
-    record {
-      early = first.events;
-      late = then_.events;
-      lawful = all_both IsLawful first.events then_.events first.lawful then_.lawful;
-      before = first.mirrors;
-      after = subst (Mirrors t) (sym (run-append empty first.events then_.events)) then_.mirrors;
-      headline = headline_holds first.events then_.events;
-    }

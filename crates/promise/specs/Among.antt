@@ -25,7 +25,7 @@ use Rattle.world_model.specs.Invariant.{Names, all_names}
 use Rattle.world_model.specs.Others.{Act, HeadlineAmong, KeepsApart, LeavesAlone, run_among}
 use Rattle.world_model.specs.Room.{IsLawfulAct}
 use Rattle.promise.specs.AmongTyped.{HasOurs}
-use Rattle.promise.specs.Traces.{Finds, IsAt, IsImageOf, Promised, State, Step, Trace, start}
+use Rattle.promise.specs.Traces.{AreRuns, Finds, IsAt, IsImageOf, Promised, State, Step, Trace, start}
 
 -- what the message asks for, if it asks for something, leaves our records alone
 abbrev pub AsksAlone : Names → Message → Type 0
@@ -101,11 +101,13 @@ module _ {R J I O P Q : Type 0} (g : Registries R) (h : Journals J) (received : 
       → TraceAmong g h received posted remaining contents base ours start s
       → TraceAmong g h received posted remaining contents base ours s t → AreRunsAmong ours s t
 
-  -- without others, a trace is a trace among others, and if every record is ours, the promise is the one without others
+  -- without others, a trace is a trace among others, and if every record is ours, a run among others is a run of our
+  -- events, and the promise is the one without others
   pub record TracesWithoutOthers : Type 0 where
     pub traces : (base : List ℕ) (ours : Names) (s t : State)
         → Trace g h received posted remaining contents base s t
         → TraceAmong g h received posted remaining contents base ours s t
     pub all_ours : (book : BookMap) → HasOurs all_names book
+    pub runs : (s t : State) → AreRunsAmong all_names s t → AreRuns s t
     pub promised : (history : History) (rows : List StoredRecord) (book : Book) (later : List StoredRecord)
         → PromisedAmong all_names history rows book later ↔ Promised history rows book later

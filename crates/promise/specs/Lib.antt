@@ -5,7 +5,4 @@ pub mod Among
 pub mod AmongSeveral
 pub mod Calls
 pub mod Moves
-pub mod Abreast
-pub mod AmongMoves
-pub mod AmongPaces
 pub mod Resets

@@ -1,10 +1,12 @@
--- What `push` and `serve` do, as lists of moves, and the two lists interleaved.
-use Rattle.std.specs.Prelude.{◌≡◌, ◌⊎◌, ◌∷◌, ◌++◌, ℕ, List, [], Option, Some, None, Result, ⊤}
+-- What `push` and `serve` do, as lists of moves, and the two lists interleaved. The provider may serve connections of
+-- somebody else too.
+use Rattle.std.specs.Prelude.{◌≡◌, ◌≢◌, ◌⊎◌, ◌∷◌, ◌++◌, ℕ, Bool, true, false, List, [], Option, Some, None, Result, ⊤}
 use Rattle.std.specs.List.{AllByRecursion}
-use Rattle.scim_key.specs.declared.records.RecordName.{RecordName}
 use Rattle.scim_resource.specs.Rows.{StoredRecord}
 use Rattle.scim_message.specs.declared.messages.Request.{Request}
 use Rattle.provider_core.specs.declared.registry.Registry.{Ghosts as Registries}
+use Rattle.http_text.specs.Forms.{IsRequestMessage}
+use Rattle.http_text.specs.Message.{Message}
 use Rattle.connection.specs.declared.answering.Served.{Served}
 use Rattle.connection.specs.declared.serving.ConnectionFault.{ConnectionFault}
 use Rattle.connection.specs.Listening.{Takes}
@@ -17,28 +19,30 @@ use Rattle.connector_core.specs.Changing.{taking}
 use Rattle.connector_core.specs.Maps.{BookMap, book_of}
 use Rattle.connector_core.specs.State.{State as Connector}
 use Rattle.connector_core.specs.declared.asking.Ask.TheVariants.{Send}
-use Rattle.provisioning.specs.Carrying.{Carries}
-use Rattle.provisioning.specs.Exchanges.{Exchange, IsExchange, opening_of}
+use Rattle.provisioning.specs.Carrying.{CarriesAt, CarriesBy}
+use Rattle.provisioning.specs.Exchanges.{opening_of}
 use Rattle.provisioning.specs.Offering.{rows_in}
 use Rattle.provisioning.specs.Openings.{Opening}
+use Rattle.provisioning.specs.Paces.{PushesInTurn}
 use Rattle.provisioning.specs.Runs.{Done}
+use Rattle.provisioning.specs.Services.{keeping_at}
 use Rattle.provisioning.specs.Sources.{records_of}
+use Rattle.provisioning.specs.Windows.{IsWith}
 use Rattle.provisioning.specs.declared.carrying.Outcome.{Outcome}
 use Rattle.provisioning.specs.declared.faults.RunFault.{RunFault}
 use Rattle.provisioning.specs.declared.offering.Judged.{Judged}
+use Rattle.provisioning.specs.declared.paces.Pace.{Pace}
 use Rattle.provisioning.specs.declared.sources.Source.{Source}
 use Rattle.provisioning.specs.declared.sources.Sources.{Sources}
-use Rattle.provisioning.specs.Services.{keeping_at}
+use Rattle.world_model.specs.Invariant.{Names}
+use Rattle.world_model.specs.Safe.{Has}
 use Rattle.world_model.specs.World.{Asked}
 use Rattle.world_sim.specs.Fitting.{IsFormed}
-use Rattle.promise.specs.Calls.{BringsReply, BringsRequest, HoldsMore}
-use Rattle.promise.specs.Traces.{Finds, State, Trace, Written}
+use Rattle.promise.specs.Among.{AsksAlone, TraceAmong}
+use Rattle.promise.specs.Calls.{Asking, BringsReply, BringsRequest, HoldsMore, IsOver}
+use Rattle.promise.specs.Traces.{Finds, IsAtFront, State, Written}
 
 -- ---- moves
-
--- an exchange for a record
-abbrev pub Asking : (I O : Type 0) → Type 0
-Asking I O = RecordName × Exchange I O
 
 -- a connection, and what was written on it
 pub record Connection (P Q : Type 0) : Type 0 where
@@ -87,26 +91,47 @@ Interleaves {X} ones others (x ∷ all) =
 
 -- ---- what each side does
 
+-- the connector asks for this next by its book, in a text that spells it if it is within the limits
+abbrev pub IsNext : {I O : Type 0} → (base : List ℕ) → BookMap → Asking I O → Type 0
+IsNext base book e = (asking (book_of book) e.0 ≡ Some (Send e.1.request)) × IsFormed base (Asked e.1.request)
+
+-- a request may be sent while these exchanges wait: if it is one exchange after another, none may; else none may for
+-- this record
+abbrev pub MayAsk : {I O : Type 0} → (in_turn : Bool) → Asking I O → (waits : List (Asking I O)) → Type 0
+MayAsk true e waits = waits ≡ []
+MayAsk false e waits = AllByRecursion (λ f. f.0 ≢ e.0) waits
+
 module _ {J I O P Q : Type 0} (h : Journals J) (received : I → Option (List ℕ)) (posted : O → Option (List ℕ))
     (base : List ℕ) where
-  -- The moves of a connector, from one book to another. It is offered valid rows; it sends what it asks for next, in a
-  -- text that spells it if it is within the limits, and does nothing else until this exchange is over
-  abbrev pub PushDoes : List (Move I O P Q) → (waits : Option (Asking I O)) → (book last : BookMap) → Type 0
-  PushDoes [] None book last = last ≡ book
-  PushDoes [] (Some e) book last = ⊥
-  PushDoes (offers row ∷ moves) None book last = IsRow row × PushDoes moves None (taking book row) last
-  PushDoes (offers row ∷ moves) (Some e) book last = ⊥
-  PushDoes (asks e ∷ moves) None book last =
-      (asking (book_of book) e.0 ≡ Some (Send e.1.request)) × IsFormed base (Asked e.1.request)
-      × PushDoes moves (Some e) book last
-  PushDoes (asks e ∷ moves) (Some f) book last = ⊥
-  PushDoes (hears e ∷ moves) None book last = ⊥
-  PushDoes (hears e ∷ moves) (Some f) book last =
-      (e ≡ f)
-      × ((before : Connector J) × (after : Connector J)
-      × IsExchange received posted h (keeping_at base) e.0 e.1 before after × (before.book ≡ book)
-      × PushDoes moves None after.book last)
-  PushDoes (serves c ∷ moves) waits book last = ⊥
+  -- The moves of a push, from one book to another, while these exchanges wait for their answers. It is offered valid
+  -- rows while none waits. It sends what it asks for next, as its book is then. An exchange that waits is over at any
+  -- later time, and changes the book as it is then. In the end none waits
+  abbrev pub PushDoes : (in_turn : Bool) → List (Move I O P Q) → (waits : List (Asking I O)) → (book last : BookMap)
+      → Type 0
+  PushDoes in_turn [] waits book last = (waits ≡ []) × (last ≡ book)
+  PushDoes in_turn (offers row ∷ moves) waits book last =
+      (waits ≡ []) × IsRow row × PushDoes in_turn moves [] (taking book row) last
+  PushDoes in_turn (asks e ∷ moves) waits book last =
+      IsNext base book e × MayAsk in_turn e waits
+      × ((longer : List (Asking I O)) × IsWith e waits longer × PushDoes in_turn moves longer book last)
+  PushDoes in_turn (hears e ∷ moves) waits book last =
+      (others : List (Asking I O)) × IsWith e others waits
+      × ((before : Connector J) × (after : Connector J) × IsOver h received posted base e before after
+      × (before.book ≡ book) × PushDoes in_turn moves others after.book last)
+  PushDoes in_turn (serves c ∷ moves) waits book last = ⊥
+
+  -- The moves of a connector, whichever exchanges are under way, if these requests were sent before. It learns at any
+  -- later time from what came for a request that was sent
+  abbrev pub ConnectorDoes : List (Move I O P Q) → List Request → (book last : BookMap) → Type 0
+  ConnectorDoes [] sent book last = last ≡ book
+  ConnectorDoes (offers row ∷ moves) sent book last = IsRow row × ConnectorDoes moves sent (taking book row) last
+  ConnectorDoes (asks e ∷ moves) sent book last =
+      IsNext base book e × ConnectorDoes moves (sent ++ e.1.request ∷ []) book last
+  ConnectorDoes (hears e ∷ moves) sent book last =
+      Has sent e.1.request
+      × ((before : Connector J) × (after : Connector J) × IsOver h received posted base e before after
+      × (before.book ≡ book) × ConnectorDoes moves sent after.book last)
+  ConnectorDoes (serves c ∷ moves) sent book last = ⊥
 
 -- one connection, from these rows to those that the next one finds
 pub record IsConnection {R P Q : Type 0} (g : Registries R) (remaining : P → Option (List ℕ))
@@ -132,18 +157,27 @@ module _ {R I O P Q : Type 0} (g : Registries R) (remaining : P → Option (List
 
 -- ---- what the network does
 
-module _ {I O P Q : Type 0} (received : I → Option (List ℕ)) (remaining : P → Option (List ℕ)) (base : List ℕ) where
-  -- while these moves are made, each connection brings a request that was sent before, and each stream what was written
-  -- before for its request; whole, cut off, late, again or not at all
-  abbrev pub Delivers : List (Move I O P Q) → List Request → List Written → Type 0
-  Delivers [] sent written = ⊤
-  Delivers (offers row ∷ moves) sent written = Delivers moves sent written
-  Delivers (asks e ∷ moves) sent written = Delivers moves (sent ++ e.1.request ∷ []) written
-  Delivers (hears e ∷ moves) sent written =
-      BringsReply received written e.1.request e.1.reader × Delivers moves sent written
-  Delivers (serves c ∷ moves) sent written =
-      (request : Request) × BringsRequest remaining base sent c.reader request
-      × Delivers moves sent (written ++ (request, c.out) ∷ [])
+-- What comes on a connection of somebody else is known; whichever message is at its front, what that asks for
+-- leaves our records alone
+abbrev pub BringsTheirs : {P : Type 0} → (P → Option (List ℕ)) → Names → (reader : P) → Type 0
+BringsTheirs remaining ours reader =
+    (came : List ℕ) × (remaining reader ≡ Some came)
+    × ((m : Message) → IsAtFront IsRequestMessage came m → AsksAlone ours m)
+
+module _ {I O P Q : Type 0} (received : I → Option (List ℕ)) (remaining : P → Option (List ℕ)) (base : List ℕ)
+    (ours : Names) where
+  -- while these moves are made, each connection brings a request of ours that was sent before, or is somebody else's;
+  -- and each stream brings what was written before for its request; whole, cut off, late, again or not at all
+  abbrev pub DeliversAmong : List (Move I O P Q) → List Request → List Written → Type 0
+  DeliversAmong [] sent written = ⊤
+  DeliversAmong (offers row ∷ moves) sent written = DeliversAmong moves sent written
+  DeliversAmong (asks e ∷ moves) sent written = DeliversAmong moves (sent ++ e.1.request ∷ []) written
+  DeliversAmong (hears e ∷ moves) sent written =
+      BringsReply received written e.1.request e.1.reader × DeliversAmong moves sent written
+  DeliversAmong (serves c ∷ moves) sent written =
+      ((request : Request) × BringsRequest remaining base sent c.reader request
+      × DeliversAmong moves sent (written ++ (request, c.out) ∷ []))
+      ⊎ (BringsTheirs remaining ours c.reader × DeliversAmong moves sent written)
 
 -- ---- laws
 
@@ -157,9 +191,10 @@ rows_of_files sources = rows_in (records_of sources.users) ++ rows_if sources.gr
 
 -- the moves of a push, on streams among those that it opened
 pub record IsPush {J I O : Type 0} (P Q : Type 0) (h : Journals J) (received : I → Option (List ℕ))
-    (posted : O → Option (List ℕ)) (base : List ℕ) (opened : List (Opening I O)) (book last : BookMap) : Type 0 where
+    (posted : O → Option (List ℕ)) (base : List ℕ) (in_turn : Bool) (opened : List (Opening I O))
+    (book last : BookMap) : Type 0 where
   pub moves : List (Move I O P Q)
-  pub does : PushDoes h received posted base moves None book last
+  pub does : PushDoes h received posted base in_turn moves [] book last
   pub streams : AreAmong (streams_in moves) opened
 
 -- the moves of a listener that took these connections
@@ -176,30 +211,60 @@ AreKnown {Q} contents = (writer : Q) → (held : List ℕ) × (contents writer �
 
 module _ {R J I O P Q : Type 0} (g : Registries R) (h : Journals J) (received : I → Option (List ℕ))
     (posted : O → Option (List ℕ)) (remaining : P → Option (List ℕ)) (contents : Q → Option (List ℕ)) where
-  -- a trace leads from this state to one with this book and these rows
-  pub record Reaches (base : List ℕ) (old : State) (book : BookMap) (rows : List StoredRecord) : Type 0 where
+  -- a trace among others leads from this state to one with this book and these rows
+  pub record ReachesAmong (base : List ℕ) (ours : Names) (old : State) (book : BookMap)
+      (rows : List StoredRecord) : Type 0 where
     pub new : State
-    pub trace : Trace g h received posted remaining contents base old new
+    pub trace : TraceAmong g h received posted remaining contents base ours old new
     pub book_is : new.book ≡ book
     pub rows_are : new.rows ≡ rows
 
-  -- The moves of a connector and those of a provider are one trace, in whichever order they come
-  abbrev pub MovesAreTraces : Type 0
-  MovesAreTraces =
-      (base : List ℕ) (old : State) (pushed served all : List (Move I O P Q)) (book : BookMap)
-      (rows : List StoredRecord) → PushDoes h received posted base pushed None old.book book
+  -- the moves of a push are moves of a connector, whichever requests were sent before
+  abbrev pub PushesConnect : Type 0
+  PushesConnect =
+      (base : List ℕ) (in_turn : Bool) (moves : List (Move I O P Q)) (sent : List Request) (book last : BookMap)
+      → PushDoes h received posted base in_turn moves [] book last
+      → ConnectorDoes h received posted base moves sent book last
+
+  -- The moves of a connector and those of a provider are one trace among others, in whichever order they come
+  abbrev pub MovesAreTracesAmong : Type 0
+  MovesAreTracesAmong =
+      (base : List ℕ) (ours : Names) (old : State) (pushed served all : List (Move I O P Q)) (book : BookMap)
+      (rows : List StoredRecord) → ConnectorDoes h received posted base pushed old.sent old.book book
       → ServeDoes g remaining contents base served old.rows rows → Interleaves pushed served all
-      → Delivers received remaining base all old.sent old.written → Reaches base old book rows
+      → DeliversAmong received remaining base ours all old.sent old.written → ReachesAmong base ours old book rows
+
+  -- A push and the turns of a listener are one trace among others, in whichever order their moves come
+  abbrev pub PushAndServeAreATraceAmong : Type 0
+  PushAndServeAreATraceAmong =
+      (base : List ℕ) (in_turn : Bool) (opened : List (Opening I O)) (connections : List (P × Q)) (book last : BookMap)
+      (found rows : List StoredRecord) (push : IsPush P Q h received posted base in_turn opened book last)
+      (serve : IsListener I O g remaining contents base connections found rows) (ours : Names) (s : State)
+      (all : List (Move I O P Q)) → book ≡ s.book → found ≡ s.rows → Interleaves push.moves serve.moves all
+      → DeliversAmong received remaining base ours all s.sent s.written → ReachesAmong base ours s last rows
 
   module _ {T L : Type 0} (heard : T → Option (List Judged)) (told : T → Option (List Done))
       (waiting : L → Option (List (P × Q))) where
-    -- A push makes such moves: it offers the rows of its files, and then makes the exchanges for its records
-    abbrev pub PushesAreMoves : Type 0
-    PushesAreMoves =
-        (base : List ℕ) (sources : Sources) (opened : List (Opening I O)) (old new : Connector J) (before after : T)
-        (result : Result Outcome RunFault)
-        → Carries received posted h heard told (keeping_at base) sources opened old new before after result
-        → AllByRecursion IsRow (rows_of_files sources) → IsPush P Q h received posted base opened old.book new.book
+    -- A push that makes one exchange after another does nothing else until an exchange is over, in whichever order its
+    -- records come
+    abbrev pub PushesInTurnAreMoves : Type 0
+    PushesInTurnAreMoves =
+        (base : List ℕ) (leavers_first : Bool) (limit : ℕ) (sources : Sources) (opened : List (Opening I O))
+        (old new : Connector J) (before after : T) (result : Result Outcome RunFault)
+        → CarriesBy (PushesInTurn received posted h (keeping_at base) leavers_first limit) h heard told sources opened
+        old new before after result
+        → AllByRecursion IsRow (rows_of_files sources)
+        → IsPush P Q h received posted base true opened old.book new.book
+
+    -- A push at any pace makes such moves: it offers the rows of its files, and then makes the exchanges for its
+    -- records, several at once
+    abbrev pub PushesAtPacesAreMoves : Type 0
+    PushesAtPacesAreMoves =
+        (base : List ℕ) (pace : Pace) (sources : Sources) (opened : List (Opening I O)) (old new : Connector J)
+        (before after : T) (result : Result Outcome RunFault)
+        → CarriesAt received posted h pace heard told (keeping_at base) sources opened old new before after result
+        → AllByRecursion IsRow (rows_of_files sources)
+        → IsPush P Q h received posted base false opened old.book new.book
 
     -- The turns of a listener are such moves, one for each connection that it took
     abbrev pub ListenersAreMoves : Type 0
@@ -209,20 +274,3 @@ module _ {R J I O P Q : Type 0} (g : Registries R) (h : Journals J) (received : 
         → g.is_faithful new → AreKnown contents
         → (connections : List (P × Q)) × Takes (waiting before) (waiting after) connections
         × IsListener I O g remaining contents base connections (g.rows old) (g.rows new)
-
-    -- A push and the turns of a listener are one trace, in whichever order their moves come
-    abbrev pub PushAndServeAreATrace : Type 0
-    PushAndServeAreATrace =
-        (base : List ℕ) (sources : Sources) (opened : List (Opening I O)) (old new : Connector J) (before after : T)
-        (outcome : Result Outcome RunFault) (first last : L) (store kept : R) (count : ℕ)
-        (result : Result (Unit {0}) ConnectionFault)
-        → Carries received posted h heard told (keeping_at base) sources opened old new before after outcome
-        → AllByRecursion IsRow (rows_of_files sources)
-        → ServesTurns waiting remaining contents g base first last store kept count result
-        → g.is_faithful kept → AreKnown contents
-        → (push : IsPush P Q h received posted base opened old.book new.book)
-        × (connections : List (P × Q)) × Takes (waiting first) (waiting last) connections
-        × (serve : IsListener I O g remaining contents base connections (g.rows store) (g.rows kept))
-        × ((s : State) (all : List (Move I O P Q)) → old.book ≡ s.book → g.rows store ≡ s.rows
-        → Interleaves push.moves serve.moves all → Delivers received remaining base all s.sent s.written
-        → Reaches base s new.book (g.rows kept))

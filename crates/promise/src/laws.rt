@@ -1,12 +1,9 @@
 //! Laws of all traces, with nothing to run.
-ghost use Rattle.promise.specs.Abreast.{AbreastMovesAreTraces, FlightsAreExchanges, PushAtPaceAndServeAreATrace, PushesAtPacesAreMoves, PushesInTurnAreMoves, ReopeningAfterSeveral};
 ghost use Rattle.promise.specs.Among.{TracesAreRunsAmong, TracesWithoutOthers};
-ghost use Rattle.promise.specs.AmongMoves.{MovesAreTracesAmong, PushAndServeAreATraceAmong, PushesConnect};
-ghost use Rattle.promise.specs.AmongPaces.{PushAtPaceAndServeAreATraceAmong, PushesAtPacesConnect};
 ghost use Rattle.promise.specs.AmongSeveral.{TracesOfSeveralAreRuns};
 ghost use Rattle.promise.specs.AmongTyped.{TypedTracesAreRunsAmong};
-ghost use Rattle.promise.specs.Calls.{DoubtsAreSteps, ExchangesAreSteps, OffersAreSteps, ReopeningAfterChanges, ReopeningAfterExchanges, ReopeningIsAStep, ServingIsAStep};
-ghost use Rattle.promise.specs.Moves.{ListenersAreMoves, MovesAreTraces, PushAndServeAreATrace, PushesAreMoves};
+ghost use Rattle.promise.specs.Calls.{DoubtsAreSteps, ExchangesAreSteps, FlightsAreExchanges, OffersAreSteps, ReopeningAfterSeveral, ReopeningIsAStep, ServingIsAStep};
+ghost use Rattle.promise.specs.Moves.{ListenersAreMoves, MovesAreTracesAmong, PushAndServeAreATraceAmong, PushesAtPacesAreMoves, PushesConnect, PushesInTurnAreMoves};
 ghost use Rattle.promise.specs.Resets.{ClosingIsAStep, ReopeningAfterAll, ResetsAreSteps, TracesThroughResets};
 ghost use Rattle.promise.specs.Traces.{TracesAreRuns};
 ghost use Rattle.promise.specs.Typed.{TypedTracesAreRuns};
@@ -33,7 +30,8 @@ pub fn traces_are_runs<R: Registry, J: Journal, I: Read, O: Write, P: Read, Q: W
 /// our records alone. Then every trace of requests and answers (`typed`), and of calls over bytes (`runs`), is
 /// a run of the model among others, so the promise holds for our records between any two moments of it,
 /// whether or not the provider has room. Several connectors may share the provider: if no two have a record in
-/// common, the promise holds for the records of each (`several`). Without others these are the laws above
+/// common, the promise holds for the records of each (`several`). A trace without others is one among others,
+/// and if every record is ours, a run among others is a run of our events: these are the laws above
 /// (`without`).
 pub fn traces_are_runs_among<R: Registry, J: Journal, I: Read, O: Write, P: Read, Q: Write>()
     ensures typed { TypedTracesAreRunsAmong }
@@ -48,8 +46,9 @@ pub fn traces_are_runs_among<R: Registry, J: Journal, I: Read, O: Write, P: Read
 /// The calls of the programs are steps of a trace: each connection that was served, if what came on it was a
 /// first part of the text of a request that was ever sent, or all of it; each exchange, if what came on its
 /// stream was a first part of what was written for its request, or all of it; each row that was offered; each
-/// record that was doubted; and each opening of the connector, also after a fault, also of the one call that
-/// offers many rows (`after_all`). What `close` gives back is what the next opening finds (`closing`).
+/// record that was doubted; and each opening of the connector, also after one call that offers many rows, or
+/// one, whether or not it failed (`after_all`). What `close` gives back is what the next opening finds
+/// (`closing`).
 pub fn calls_are_steps<R: Registry, J: Journal, I: Read, O: Write, P: Read, Q: Write>()
     ensures serving { ServingIsAStep R.Registry J.Journal I.remaining O.contents P.remaining
         Q.contents }
@@ -61,10 +60,6 @@ pub fn calls_are_steps<R: Registry, J: Journal, I: Read, O: Write, P: Read, Q: W
         Q.contents }
     ensures reopening { ReopeningIsAStep R.Registry J.Journal I.remaining O.contents P.remaining
         Q.contents }
-    ensures after_exchanges { ReopeningAfterExchanges R.Registry J.Journal I.remaining O.contents
-        P.remaining Q.contents }
-    ensures after_changes { ReopeningAfterChanges R.Registry J.Journal I.remaining O.contents
-        P.remaining Q.contents }
     ensures after_all { ReopeningAfterAll R.Registry J.Journal I.remaining O.contents P.remaining
         Q.contents }
     ensures closing { ClosingIsAStep R.Registry J.Journal I.remaining O.contents P.remaining
@@ -89,70 +84,36 @@ pub fn traces_through_resets_are_runs<
         Q.contents }
 {}
 
-/// What `push` and `serve` do is a trace. By their contracts each makes a list of moves: a push offers the
-/// rows of its files and makes exchanges on the streams that it opens, and a listener serves the connections
-/// that it takes. In whichever order the moves of both come, they are one trace, if the network delivers
-/// nothing but what was sent.
+/// What `push` and `serve` do is a trace. By their contracts each makes a list of moves. A push offers the rows
+/// of its files and makes exchanges on the streams that it opens: several at once, at any pace (`push`), or one
+/// after another, in whichever order its records come (`in_turn`). Each request is what the connector asks for
+/// when it is sent, and the answer is learnt on its stream, as the book is then; other records' requests and
+/// answers may lie between. A listener serves the connections that it takes (`listener`). The moves of a push
+/// are moves of a connector (`connect`). Moves of a connector and moves of a listener are one trace among
+/// others, in whichever order they come, if each connection brings a request of ours that was sent before, or
+/// what is asked for there leaves our records alone (`moves`). So it is for a push and the turns of a listener
+/// (`together`).
 pub fn programs_are_traces<R: Registry, J: Journal, D: Dial, T: Hear + Tell, L: Listen>()
-    ensures push { PushesAreMoves R.Registry J.Journal D.Reader.remaining D.Writer.contents
-        L.Reader.remaining L.Writer.contents T.heard T.told L.waiting }
-    ensures listener { ListenersAreMoves R.Registry J.Journal D.Reader.remaining D.Writer.contents
-        L.Reader.remaining L.Writer.contents T.heard T.told L.waiting }
-    ensures moves { MovesAreTraces R.Registry J.Journal D.Reader.remaining D.Writer.contents
-        L.Reader.remaining L.Writer.contents }
-    ensures together { PushAndServeAreATrace R.Registry J.Journal D.Reader.remaining
-        D.Writer.contents L.Reader.remaining L.Writer.contents T.heard T.told L.waiting }
-{}
-
-/// What a push at any pace does beside `serve` is a trace, also if it makes several exchanges at once. Each
-/// request is what the connector asks for when it is sent, and the answer is learnt on its stream, as the
-/// book is then; other records' requests and answers may lie between. A push that makes one exchange after
-/// another does nothing else meanwhile, in whichever order its records come.
-pub fn pushes_at_any_pace_are_traces<R: Registry, J: Journal, D: Dial, T: Hear + Tell, L: Listen>()
     ensures in_turn { PushesInTurnAreMoves R.Registry J.Journal D.Reader.remaining D.Writer.contents
         L.Reader.remaining L.Writer.contents T.heard T.told L.waiting }
     ensures push { PushesAtPacesAreMoves R.Registry J.Journal D.Reader.remaining D.Writer.contents
         L.Reader.remaining L.Writer.contents T.heard T.told L.waiting }
-    ensures moves { AbreastMovesAreTraces R.Registry J.Journal D.Reader.remaining D.Writer.contents
-        L.Reader.remaining L.Writer.contents }
-    ensures together { PushAtPaceAndServeAreATrace R.Registry J.Journal D.Reader.remaining
-        D.Writer.contents L.Reader.remaining L.Writer.contents T.heard T.told L.waiting }
-{}
-
-/// The calls of a push that makes several exchanges at once: what is learnt from an answer on the stream of
-/// its request is an exchange that is over; and if a fault shut the journal meanwhile, the connector that is
-/// opened again has a book to which a trace leads.
-pub fn several_exchanges_are_steps<R: Registry, J: Journal, I: Read, O: Write, P: Read, Q: Write>()
-    ensures over { FlightsAreExchanges R.Registry J.Journal I.remaining O.contents P.remaining
-        Q.contents }
-    ensures reopening { ReopeningAfterSeveral R.Registry J.Journal I.remaining O.contents
-        P.remaining Q.contents }
-{}
-
-/// The same among others: the provider serves connections of theirs too. The moves of a connector, among which
-/// are those of a push (`connect`), and the moves of a listener are one trace among others, in whichever order
-/// they come, if each connection brings a request of ours that was sent before, or what is asked for there
-/// leaves our records alone (`moves`). So it is for a push and the turns of a listener (`together`).
-pub fn programs_are_traces_among<R: Registry, J: Journal, D: Dial, T: Hear + Tell, L: Listen>()
+    ensures listener { ListenersAreMoves R.Registry J.Journal D.Reader.remaining D.Writer.contents
+        L.Reader.remaining L.Writer.contents T.heard T.told L.waiting }
     ensures connect { PushesConnect R.Registry J.Journal D.Reader.remaining D.Writer.contents
         L.Reader.remaining L.Writer.contents }
     ensures moves { MovesAreTracesAmong R.Registry J.Journal D.Reader.remaining D.Writer.contents
         L.Reader.remaining L.Writer.contents }
     ensures together { PushAndServeAreATraceAmong R.Registry J.Journal D.Reader.remaining
-        D.Writer.contents L.Reader.remaining L.Writer.contents T.heard T.told L.waiting }
+        D.Writer.contents L.Reader.remaining L.Writer.contents }
 {}
 
-/// The same among others of a push at any pace: its moves are moves of a connector too (`connect`), so they and
-/// the turns of a listener are one trace among others, in whichever order they come (`together`).
-pub fn pushes_at_any_pace_are_traces_among<
-    R: Registry,
-    J: Journal,
-    D: Dial,
-    T: Hear + Tell,
-    L: Listen,
->()
-    ensures connect { PushesAtPacesConnect R.Registry J.Journal D.Reader.remaining D.Writer.contents
-        L.Reader.remaining L.Writer.contents }
-    ensures together { PushAtPaceAndServeAreATraceAmong R.Registry J.Journal D.Reader.remaining
-        D.Writer.contents L.Reader.remaining L.Writer.contents T.heard T.told L.waiting }
+/// The calls of a push that makes several exchanges at once: what is learnt from an answer on the stream of
+/// its request is an exchange that is over; and after exchanges, also if a fault shut the journal meanwhile,
+/// the connector that is opened again has a book to which a trace leads.
+pub fn several_exchanges_are_steps<R: Registry, J: Journal, I: Read, O: Write, P: Read, Q: Write>()
+    ensures over { FlightsAreExchanges R.Registry J.Journal I.remaining O.contents P.remaining
+        Q.contents }
+    ensures reopening { ReopeningAfterSeveral R.Registry J.Journal I.remaining O.contents
+        P.remaining Q.contents }
 {}

@@ -4,7 +4,6 @@
 mod laws;
 
 pub use laws::{
-    calls_are_steps, programs_are_traces, programs_are_traces_among, pushes_at_any_pace_are_traces,
-    pushes_at_any_pace_are_traces_among, several_exchanges_are_steps, traces_are_runs,
+    calls_are_steps, programs_are_traces, several_exchanges_are_steps, traces_are_runs,
     traces_are_runs_among, traces_through_resets_are_runs, typed_traces_are_runs,
 };

@@ -17,12 +17,6 @@ returns-clause-doubts g c = laws.doubts_are_steps g.R.Registry g.J.Journal g.I.R
 pub returns-clause-reopening : goal.returns-clause-reopening
 returns-clause-reopening g c = laws.reopening_is_a_step g.R.Registry g.J.Journal g.I.Read.remaining g.O.Write.contents g.P.Read.remaining g.Q.Write.contents
 
-pub returns-clause-after_exchanges : goal.returns-clause-after_exchanges
-returns-clause-after_exchanges g c = laws.reopening_after_exchanges g.R.Registry g.J.Journal g.I.Read.remaining g.O.Write.contents g.P.Read.remaining g.Q.Write.contents
-
-pub returns-clause-after_changes : goal.returns-clause-after_changes
-returns-clause-after_changes g c = laws.reopening_after_changes g.R.Registry g.J.Journal g.I.Read.remaining g.O.Write.contents g.P.Read.remaining g.Q.Write.contents
-
 pub returns-clause-after_all : goal.returns-clause-after_all
 returns-clause-after_all g c = resets.reopening_after_all g.R.Registry g.J.Journal g.I.Read.remaining g.O.Write.contents g.P.Read.remaining g.Q.Write.contents
 

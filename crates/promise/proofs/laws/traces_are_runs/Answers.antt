@@ -1,4 +1,4 @@
-use Rattle.promise.proofs.Traces as laws
+use Rattle.promise.proofs.AmongTraces as laws
 use Rattle.promise.proofs.laws.traces_are_runs.Goals as goal
 
 pub returns : goal.returns
