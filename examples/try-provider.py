@@ -3,8 +3,8 @@
 
 It creates a user with a name that nobody has, replaces that user some times, and leaves the user inactive. It changes
 no other account. It prints a line for each condition: `met`, `not met` or `can't be tried`, and what that means. Then
-it prints how to push to this provider. Either the source extension must be kept, or each replacement must have a version
-of its own; all other conditions must be met.
+it prints how to push to this provider: whether the source extension and versions are kept decides about
+`--provider-keeps`. All other conditions must be met.
 
 Status: 0 if they are, 1 if not, 2 if the arguments are invalid, 3 if the provider can't be reached.
 """
@@ -345,6 +345,14 @@ CONDITIONS = {
 }
 
 
+# The options of each kind of provider, and the conditions that it needn't meet
+KINDS = {
+    (): {"new versions"},
+    ("--provider-keeps versions",): {"source extension"},
+    ("--provider-keeps nothing",): {"source extension", "If-Match", "strong version", "new versions"},
+}
+
+
 # ---- the run
 
 
@@ -356,9 +364,10 @@ def push_line(provider, unmet):
         words.append(f"--base http://{provider.authority}/v2")
     if provider.path != DEFAULT_PATH:
         words.append(f"--path {shlex.quote(provider.path)}")
-    if unmet <= {"new versions"}:
-        return " ".join(words)
-    return " ".join([*words, "--provider-keeps versions"]) if unmet <= {"source extension"} else None
+    for kind, may_be_unmet in KINDS.items():
+        if unmet <= may_be_unmet:
+            return " ".join([*words, *kind])
+    return None
 
 
 def report(trial, is_left_off):

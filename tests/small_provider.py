@@ -111,3 +111,18 @@ class DropsExtension(SmallProvider):
 
     def keep(self, content, id=None):
         return super().keep({name: value for name, value in content.items() if name != SOURCE}, id)
+
+
+class HasNoVersions(DropsExtension):
+    """It keeps no count of changes, and reads no condition."""
+
+    def __init__(self, *users):
+        super().__init__(*users)
+        self.conditions = []
+
+    def replace(self, id, content, if_match):
+        self.conditions.append(if_match)
+        return super().replace(id, content, None)
+
+    def shown(self, id):
+        return super().shown(id) | {"meta": {"resourceType": "User"}}

@@ -225,8 +225,8 @@ class ProviderKeepsTest(ProgramTest):
 
     def test_refusals(self):
         self.site.write_users(ANN)
-        for value in "nothing", "Versions", "":
+        for value in "none", "Versions", "":
             self.assert_reports(
                 self.site.push(NOWHERE, "--provider-keeps", value), 2,
-                "error: --provider-keeps is revisions or versions",
+                "error: --provider-keeps is revisions, versions or nothing",
             )

@@ -10,7 +10,7 @@ import time
 import unittest
 
 from example_tools import run_tool
-from small_provider import DropsExtension, SmallProvider
+from small_provider import DropsExtension, HasNoVersions, SmallProvider
 from support import (
     BOB, NOWHERE, PATIENCE, ROOT, USER, ProgramTest, Provider, free_port, resource_id, wait_until, watchdog,
 )
@@ -231,19 +231,25 @@ class BehindPushTest(ProxiesTest):
         self.assertEqual([user["active"] for user in foreign.users.values()], [True, False])
 
     def test_a_leaver_at_a_provider_that_drops_the_source_extension(self):
+        self.tried_and_pushed(DropsExtension, "versions")
+
+    def test_a_leaver_at_a_provider_without_versions(self):
+        self.tried_and_pushed(HasNoVersions, "nothing")
+
+    def tried_and_pushed(self, kind, keeps):
         """By the line that try-provider.py prints, a joiner gets an account, and a leaver who had one before loses it."""
-        foreign = DropsExtension({"schemas": [USER], "userName": "Bob", "active": True})
+        foreign = kind({"schemas": [USER], "userName": "Bob", "active": True})
         self.start(self.before_serve(self.start(foreign).address))
         self.behind_push()
         to = f"127.0.0.1:{self.push_port}"
         tried = run_tool("try-provider.py", "--to", to)
-        line = f"push by: scimlink push --users FILE --journal FILE --to {to} --provider-keeps versions"
+        line = f"push by: scimlink push --users FILE --journal FILE --to {to} --provider-keeps {keeps}"
         self.assertIn(line, tried.lines, tried.output.decode())
         self.site.write_users("ann,5,,,,,active", "bob,5,,,,,active")
         confirmed = "user ann confirmed 5", "user bob confirmed 5"
-        self.assert_prints(self.site.push(to, "--provider-keeps", "versions"), *confirmed)
+        self.assert_prints(self.site.push(to, "--provider-keeps", keeps), *confirmed)
         self.site.write_users("ann,5,,,,,active", "bob,6,,,,,left")
-        self.assert_prints(self.site.push(to, "--provider-keeps", "versions"), confirmed[0], "user bob confirmed 6")
+        self.assert_prints(self.site.push(to, "--provider-keeps", keeps), confirmed[0], "user bob confirmed 6")
         held = {user["userName"].lower(): user["active"] for user in foreign.users.values()}
         self.assertEqual((held["ann"], held["bob"]), (True, False))
 

@@ -296,6 +296,10 @@ BROKEN = {
 
 # Whom `push` can use by their versions
 BY_VERSIONS = {DropsExtension, RefusesExtension, ListsWithoutExtension, KeepsTheFirstRevision}
+BY_NOTHING = {
+    KeepsVersionsOfEqualContents, MakesVersionsFromContents, IgnoresIfMatch, RefusesVersionsOtherwise, ShowsNoVersion,
+    ShowsWeakVersions, ShowsOneVersion, ShowsNoTag,
+}
 USELESS = "don't rely on push with this provider"
 
 JOINS, LEAVES = "bob,1,,,,,active", "bob,2,,,,,left"
@@ -362,8 +366,9 @@ class TryProviderTest(ProgramTest):
         for kind, lines in BROKEN.items():
             with self.subTest(kind.__name__), kind(ANN) as provider:
                 run = try_provider("--to", provider.address)
-                by_versions = self.use_of(provider.address, "--provider-keeps versions")
-                use = by_versions if kind in BY_VERSIONS else USELESS if lines else self.use_of(provider.address)
+                keeps = "versions" if kind in BY_VERSIONS else "nothing" if kind in BY_NOTHING else None
+                options = [f"--provider-keeps {keeps}"] if keeps else []
+                use = USELESS if lines and not keeps else self.use_of(provider.address, *options)
                 self.assert_left_inactive(provider, self.assert_tells(run, *lines, use=use))
 
     def test_push_prints_what_the_tool_says(self):
