@@ -10,3 +10,4 @@ pub mod Spelled
 pub mod Tags
 pub mod Targets
 pub mod Utf8Bytes
+pub mod FilterLemmas

@@ -169,7 +169,7 @@ impl ErrorResponse {
     }
 
     /// The message with only this status.
-    pub(crate) fn bare(status: u16) -> ErrorResponse
+    pub fn bare(status: u16) -> ErrorResponse
         requires { IsErrorStatus status }
         ensures { result ≡ bare_error status }
     {

@@ -1,15 +1,16 @@
 -- The id of a number and the tag of a version are texts, and the tag may be shown.
-use Rattle.std.proofs.Common.{ℕ, zero, suc, ◌+◌, ◌<◌, ◌≤◌, ◌%◌, ◌/◌, [], ◌∷◌, ◌++◌, Bool, true, false, cond, decimal, codes, refl, arith, length-append}
+use Rattle.std.proofs.Common.{◌≡◌, ◌∙◌, ℕ, zero, suc, ◌+◌, ◌<◌, ◌≤◌, ◌%◌, ◌/◌, List, [], ◌∷◌, ◌++◌, Bool, true, false, Some, None, cond, decimal, codes, refl, ap, sym, arith, length-append}
 use Rattle.std.proofs.Math.Nat.{mod-lt}
 use Rattle.std.proofs.lemmas.Fmt.{IsAscii-decimal, length-decimal-le}
-use Rattle.std.proofs.lemmas.Str.{IsUtf8-append, IsUtf8-nil, IsUtf8-from_ascii, IsAscii-append}
+use Rattle.std.proofs.lemmas.Str.{IsUtf8-append, IsUtf8-nil, IsUtf8-from_ascii, IsUtf8-from_is_utf8, is_utf8-from_IsUtf8, IsAscii-append}
 use Rattle.std.proofs.lemmas.Str.Ascii.{IsAscii-cons, IsAscii-nil}
-use Rattle.std.specs.Str.{IsUtf8}
+use Rattle.std.specs.Str.{IsUtf8, is_utf8}
 use Rattle.scim_json.proofs.Utf8Texts.{IsUtf8-literal}
 use Rattle.scim_key.specs.Identifiers.{hex_digit, lower_hex, id_text}
 use Rattle.scim_version.specs.Tags.{IsEntityTag, version_tag}
 use Rattle.scim_version.proofs.Grammar.{IsEntityTag-from_test, version_tag_is_entity_tag}
 use Rattle.scim_resource.specs.Rows.{IsShort, last_version}
+use Rattle.scim_resource.specs.Showing.{stated_tag, tag_of}
 
 pub version_tag_is_text : (v : ℕ) → v ≤ last_version → IsUtf8 (version_tag v)
 version_tag_is_text v h =
@@ -35,3 +36,15 @@ hex_digits_are_text (suc count) n =
 pub id_is_text : (n : ℕ) → IsUtf8 (id_text n)
 unfolding id_text
 id_is_text n = IsUtf8-append _ _ (IsUtf8-literal (codes "5c1a0000-0000-8000-8000-") refl) (hex_digits_are_text 12 n)
+
+-- ---- the tag that a field states
+
+pub stated_text : (etag text : List ℕ) → text ≡ etag → IsUtf8 etag → tag_of text ≡ stated_tag (Some etag)
+stated_text etag text same utf8 = ap tag_of same ∙ ap (λ b. cond b (tag_of etag) None) (sym (is_utf8-from_IsUtf8 etag utf8))
+
+pub states_none : (etag : List ℕ) → (IsUtf8 etag → ⊥) → None ≡ stated_tag (Some etag)
+states_none etag none = go (is_utf8 etag) refl
+  where
+    go : (b : Bool) → is_utf8 etag ≡ b → None ≡ cond b (tag_of etag) None
+    go true is = absurd (none (IsUtf8-from_is_utf8 etag is))
+    go false is = refl

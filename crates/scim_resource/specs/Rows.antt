@@ -1,5 +1,6 @@
 -- A row of the provider, and a resource as an answer shows it.
-use Rattle.std.specs.Prelude.{◌≡◌, ℕ, ◌≤◌, List, length, Option, Some, IfSome}
+use Rattle.std.specs.Prelude.{◌≡◌, ℕ, ◌≤◌, List, length, Option, Some, None, IfSome}
+use Rattle.std.specs.Option.{option_or}
 use Rattle.std.specs.Str.{IsUtf8}
 use Rattle.scim_key.specs.Identifiers.{IsId, id_text, last_number}
 use Rattle.scim_key.specs.declared.records.Kind.{Kind}
@@ -69,3 +70,11 @@ shown s = record { id = id_text s.number; version = Some (version_tag s.version)
 -- the same resource under this entity tag
 abbrev pub shown_under : List ℕ → ShownRecord → ShownRecord
 shown_under tag s = record s { version = Some tag }
+
+-- a resource that no answer shows: this content under this id, without an entity tag
+abbrev pub untagged : (id : List ℕ) → Content → ShownRecord
+untagged id content = record { id = id; version = None; content = content }
+
+-- the same resource; if it has no entity tag, it is under this one
+abbrev pub completed : (tag : Option (List ℕ)) → ShownRecord → ShownRecord
+completed tag s = record s { version = option_or s.version tag }

@@ -1,5 +1,6 @@
 -- Reading a resource as an answer shows it.
 use Rattle.std.specs.Prelude.{ℕ, List, length, Option, None, Some, Result, Ok, Err, ◌&&◌, nat_le, if◌then◌else◌, is_none, codes}
+use Rattle.std.specs.Str.{is_utf8}
 use Rattle.scim_key.specs.Identifiers.{id_fault}
 use Rattle.scim_key.specs.Outcome.{◌>>=◌}
 use Rattle.scim_key.specs.declared.records.Kind.{Kind}
@@ -26,6 +27,12 @@ id_in (Some (object ms)) = Err InvalidValue
 -- the text, if it is an entity tag of at most 256 bytes
 abbrev pub tag_of : List ℕ → Option (List ℕ)
 tag_of s = if nat_le (length s) TAG_LIMIT && is_none (tag_fault s) then Some s else None
+
+-- the entity tag that the field `ETag` of a response states (RFC 7232 section 2.3): an entity tag in UTF-8 of at most 256
+-- bytes. Anything else states none
+abbrev pub stated_tag : Option (List ℕ) → Option (List ℕ)
+stated_tag None = None
+stated_tag (Some etag) = if is_utf8 etag then tag_of etag else None
 
 -- an entity tag of at most 256 bytes, or none
 abbrev pub tag_in : Option Data → Option (List ℕ)

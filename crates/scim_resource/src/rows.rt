@@ -1,12 +1,14 @@
 //! Rows of the provider, and resources as answers show them.
-ghost use Rattle.std.specs.Prelude.{◌≡◌, ◌≤◌, IfOk, IfSome};
+ghost use Rattle.std.specs.Prelude.{◌≡◌, ◌≤◌, IfOk, IfSome, option_map};
 ghost use Rattle.std.specs.Option.{option_copied};
 ghost use Rattle.std.specs.Str.{IsUtf8};
 ghost use Rattle.scim_key.specs.Identifiers.{IsId, id_text, last_number};
 ghost use Rattle.scim_version.specs.Tags.{IsEntityTag, version_tag};
-ghost use Rattle.scim_resource.specs.Rows.{last_version, row_of, shown, shown_under, IsShort, IsShown};
+ghost use Rattle.scim_resource.specs.Rows.{completed, last_version, row_of, shown, shown_under, untagged, IsShort, IsShown};
+ghost use Rattle.scim_resource.specs.Showing.{stated_tag};
 
 use crate::contents::Content;
+use crate::showing::stated_tag;
 use scim_key::ResourceId;
 use scim_version::EntityTag;
 use std::alloc::{AllocError, Global};
@@ -218,6 +220,46 @@ impl Shown {
         Ok(Shown {
             id,
             version: Some(EntityTag::of_counter(alloc, version)?),
+            content,
+        })
+    }
+
+    /// A resource that no answer shows: this content under this id, without an entity tag.
+    pub fn without_tag(
+        alloc: Global,
+        id: &ResourceId,
+        content: Content,
+    ) -> Result<Shown, AllocError>
+        ensures { IfOk result (λ s. s ≡ untagged id.now content) }
+    {
+        match ResourceId::read(alloc, id.as_str()) {
+            Ok(id) => Ok(Shown {
+                id,
+                version: None,
+                content,
+            }),
+            Err(_) => Err(AllocError),
+        }
+    }
+
+    /// The same resource. If it has no entity tag, it is under the one that the field `ETag` of a response states (RFC
+    /// 7232 section 2.3), if these bytes are one of at most 256 bytes, in UTF-8.
+    pub fn tagged(self, alloc: Global, etag: Option<&[u8]>) -> Result<Shown, AllocError>
+        ensures { IfOk result
+            (λ s. s ≡ completed (stated_tag (option_map (λ tag. tag.now) etag.entry)) self) }
+    {
+        let Shown {
+            id,
+            version,
+            content,
+        } = self;
+        let version = match version {
+            Some(tag) => Some(tag),
+            None => stated_tag(alloc, etag)?,
+        };
+        Ok(Shown {
+            id,
+            version,
             content,
         })
     }

@@ -15,7 +15,8 @@ use scim_json::{attribute, value_repeats};
 use scim_key::{Kind, ResourceId};
 use scim_version::{EntityTag, TagFault};
 use serde_json::{Map, Value};
-use std::alloc::Global;
+use std::alloc::{AllocError, Global};
+use std::str;
 
 impl Shown {
     /// Reads a resource of this type as an answer shows it. The content is read as by `Content::read`; an
@@ -82,13 +83,33 @@ fn tag_in(alloc: Global, value: Option<&Value>) -> Result<Option<EntityTag>, Con
     ensures utf8 { IfOk result (λ version. IfSome version IsUtf8) }
 {
     match value {
-        Some(Value::String(text)) => tag_of(alloc, text.as_str()),
+        Some(Value::String(text)) => Ok(tag_of(alloc, text.as_str())?),
         _ => Ok(None),
     }
 }
 
-fn tag_of(alloc: Global, text: &str) -> Result<Option<EntityTag>, ContentFault>
-    ensures given { Gives ContentFault.Memory result (Ok (spec.tag_of text.now)) }
+/// The entity tag that the field `ETag` of a response states.
+pub(crate) fn stated_tag(
+    alloc: Global,
+    etag: Option<&[u8]>,
+) -> Result<Option<EntityTag>, AllocError>
+    ensures given { IfOk result
+        (λ tag. tag ≡ spec.stated_tag (option_map (λ e. e.now) etag.entry)) }
+    ensures tag { IfOk result (λ version. IfSome version IsEntityTag) }
+    ensures short { IfOk result (λ version. IfSome version IsShort) }
+    ensures utf8 { IfOk result (λ version. IfSome version IsUtf8) }
+{
+    let Some(bytes) = etag else {
+        return Ok(None);
+    };
+    match str::from_utf8(bytes) {
+        Ok(text) => tag_of(alloc, text),
+        Err(_) => Ok(None),
+    }
+}
+
+fn tag_of(alloc: Global, text: &str) -> Result<Option<EntityTag>, AllocError>
+    ensures given { IfOk result (λ tag. tag ≡ spec.tag_of text.now) }
     ensures tag { IfOk result (λ version. IfSome version IsEntityTag) }
     ensures short { IfOk result (λ version. IfSome version IsShort) }
     ensures utf8 { IfOk result (λ version. IfSome version IsUtf8) }
@@ -99,6 +120,6 @@ fn tag_of(alloc: Global, text: &str) -> Result<Option<EntityTag>, ContentFault>
     match EntityTag::read(alloc, text.as_bytes()) {
         Ok(tag) => Ok(Some(tag)),
         Err(TagFault::Malformed) => Ok(None),
-        Err(TagFault::Memory) => Err(ContentFault::Memory),
+        Err(TagFault::Memory) => Err(AllocError),
     }
 }
