@@ -1,5 +1,5 @@
 -- What an answer stands for where no revision is shown.
-use Rattle.std.proofs.Common.{◌≡◌, ℕ, ℤ, zero, suc, Bool, true, false, ◌&&◌, cond, ◌==◌, List, [], ◌∷◌, map, Option, Some, None, Result, Ok, Err, inl, inr, refl, ap, sym, ◌∙◌, subst}
+use Rattle.std.proofs.Common.{◌≡◌, ◌≢◌, ℕ, ℤ, zero, suc, Bool, true, false, ◌&&◌, cond, ◌==◌, List, [], ◌∷◌, map, Option, Some, None, Result, Ok, Err, inl, inr, refl, ap, sym, ◌∙◌, subst}
 use Rattle.std.proofs.lemmas.Bool.{cases_Bool}
 use Rattle.std.specs.List.{slice_get}
 use Rattle.std.specs.Option.{option_map}
@@ -10,19 +10,20 @@ use Rattle.scim_key.specs.declared.records.RecordName.{RecordName}
 use Rattle.scim_key.specs.declared.records.Kind.{Kind}
 use Rattle.scim_version.specs.declared.conditions.Condition.{Condition}
 use Rattle.scim_resource.specs.Contents.{content_name, content_revision, content_with}
-use Rattle.scim_resource.specs.Rows.{ShownRecord}
+use Rattle.scim_resource.specs.Rows.{ShownRecord, shown_under}
 use Rattle.scim_resource.specs.declared.contents.Content.{Content}
 use Rattle.scim_resource.specs.declared.contents.Content.TheVariants as contents
 use Rattle.scim_filter.specs.Expressions.{Expression}
+use Rattle.scim_message.specs.Messages.{answer_under}
 use Rattle.scim_message.specs.declared.messages.Request.{Request}
 use Rattle.scim_message.specs.declared.messages.Request.TheVariants.{Create, Retrieve, Search, Replace}
 use Rattle.scim_message.specs.declared.messages.Answer.{Answer}
 use Rattle.scim_message.specs.declared.messages.Answer.TheVariants.{Created, Found, Replaced, NotModified, Error}
 use Rattle.scim_message.specs.declared.messages.Answer.TheVariants as answers
 use Rattle.comparing.specs.Aspects.{is_active, same_flag}
-use Rattle.connector_core.specs.Book.{Book, put}
+use Rattle.connector_core.specs.Book.{Book, forgotten, put}
 use Rattle.connector_core.specs.History.{same_name}
-use Rattle.connector_core.specs.Keeps.{answer_with, asked_lesson, carried, filled, filling, forgot, learn_at, lesson_at, only_seen, resources_of, says, shown_with, standing_for}
+use Rattle.connector_core.specs.Keeps.{answer_with, asked_lesson, carried, filled, filling, forgot, learn_at, lesson_at, lesson_under, no_version, only_seen, resources_of, says, shown_with, standing_for, unseen}
 use Rattle.connector_core.specs.declared.keeps.Keeps.{Keeps}
 use Rattle.connector_core.specs.declared.keeps.Keeps.TheVariants.{Revisions, Versions}
 use Rattle.connector_core.specs.Laws.{IsAnother, StandForWhatWasAsked}
@@ -194,34 +195,108 @@ steps_of keeps book request answer learning is =
 
 -- ---- what is learnt is what was asked
 
+pub under_a_tag : (tag : Option (List ℕ)) (book : Book) (name : RecordName) (known : Known) (s : ShownRecord) (l : Lesson) → tag ≢ None → lesson_under tag book name known s ≡ Ok l
+    → shown_lesson book name known s ≡ Ok l
+under_a_tag None book name known s l some is = absurd (some refl)
+under_a_tag (Some tag) book name known s l some is = is
+
+-- what is learnt without a tag
+pub record Untagged (book : Book) (name : RecordName) (known : Known) (s : ShownRecord) (l : Lesson) : Type 0 where
+  pub tagged : Lesson
+  pub learns : shown_lesson book name known (shown_under no_version s) ≡ Ok tagged
+  pub is : unseen tagged ≡ l
+
+pub under_no_tag : (book : Book) (name : RecordName) (known : Known) (s : ShownRecord) (l : Lesson) → lesson_under None book name known s ≡ Ok l → Untagged book name known s l
+under_no_tag book name known s l is =
+    let (tagged, learns, made) = through (shown_lesson book name known (shown_under no_version s)) (λ x. Ok (unseen x)) l is in
+    record { tagged = tagged; learns = learns; is = cc }
+
 module _ (book : Book) (name : RecordName) (known : Known) (l : Lesson) where
   -- an answer to what carried a content shows what was asked
-  pub was_asked : (c : Content) (s : ShownRecord) → asked_lesson book name known c s ≡ Ok l → (says name c s ≡ true) × (shown_lesson book name known (standing_for c s) ≡ Ok l)
+  pub was_asked : (c : Content) (s : ShownRecord) → asked_lesson book name known c s ≡ Ok l → (says name c s ≡ true) × (lesson_under s.version book name known (standing_for c s) ≡ Ok l)
   was_asked c s is =
-      let (b, test, after) = through (fault_unless Unfit (says name c s)) (λ _. shown_lesson book name known (standing_for c s)) l is in
+      let (b, test, after) = through (fault_unless Unfit (says name c s)) (λ _. lesson_under s.version book name known (standing_for c s)) l is in
       (passed Unfit (says name c s) b test, after)
 
-  asked_said : (c : Content) (f : ShownRecord → ShownRecord) → ((s : ShownRecord) → f s ≡ standing_for c s) → (said : Finding)
+  asked_said : (c : Content) (f : ShownRecord → ShownRecord) → ((s : ShownRecord) → f s ≡ standing_for c s) → (said : Finding) → ((s : ShownRecord) → said ≡ Shows s → s.version ≢ None)
       → lesson_at Versions book name known (Some c) said ≡ Ok l → lesson book name known (said_with f said) ≡ Ok l
-  asked_said c f same (Shows s) is = ap (shown_lesson book name known) (same s) ∙ (was_asked c s is).1
-  asked_said c f same Shows_none is = is
-  asked_said c f same Taken is = is
-  asked_said c f same (Stale if_match) is = is
+  asked_said c f same (Shows s) tagged is =
+      ap (shown_lesson book name known) (same s) ∙ under_a_tag s.version book name known (standing_for c s) l (tagged s refl) (was_asked c s is).1
+  asked_said c f same Shows_none tagged is = is
+  asked_said c f same Taken tagged is = is
+  asked_said c f same (Stale if_match) tagged is = is
 
-  pub filled_lesson : (request : Request) (c : Content) (said : Finding) → carried request ≡ Some c → lesson_at Versions book name known (carried request) said ≡ Ok l
-      → lesson book name known (said_with (filling request) said) ≡ Ok l
-  filled_lesson (Create content) c said has is = asked_said content (filling (Create content)) (λ s. refl) said is
-  filled_lesson (Retrieve kind id m n) c said has is = absurd (cc)
-  filled_lesson (Search kind wanted start count) c said has is = absurd (cc)
-  filled_lesson (Replace id content m n) c said has is = asked_said content (filling (Replace id content m n)) (λ s. refl) said is
+  pub filled_lesson : (request : Request) (c : Content) (said : Finding) → carried request ≡ Some c → ((s : ShownRecord) → said ≡ Shows s → s.version ≢ None)
+      → lesson_at Versions book name known (carried request) said ≡ Ok l → lesson book name known (said_with (filling request) said) ≡ Ok l
+  filled_lesson (Create content) c said has tagged is = asked_said content (filling (Create content)) (λ s. refl) said tagged is
+  filled_lesson (Retrieve kind id m n) c said has tagged is = absurd (cc)
+  filled_lesson (Search kind wanted start count) c said has tagged is = absurd (cc)
+  filled_lesson (Replace id content m n) c said has tagged is = asked_said content (filling (Replace id content m n)) (λ s. refl) said tagged is
 
-learnt : (book : Book) (request : Request) (c : Content) (answer : Answer) (learning : Learning) → carried request ≡ Some c → learn_at Versions book request answer ≡ Ok learning
-    → learn book request (filled request answer) ≡ Ok learning
-learnt book request c answer learning has is =
+learnt : (book : Book) (request : Request) (c : Content) (answer : Answer) (learning : Learning) → carried request ≡ Some c → ((s : ShownRecord) → finding request answer ≡ Ok (Shows s) → s.version ≢ None)
+    → learn_at Versions book request answer ≡ Ok learning → learn book request (filled request answer) ≡ Ok learning
+learnt book request c answer learning has tagged is =
     let t = steps_of Versions book request answer learning is in
     learn_is Revisions book request (filled request answer) t.name t.known (said_with (filling request) t.said) t.about t.in_book (finding_with (filling request) request answer t.said t.says)
-    ∙ ap (λ (r : Result Lesson LearnFault). r >>= λ l. Ok (noted book t.name l)) (filled_lesson book t.name t.known t.lesson request c t.said has t.teaches)
+    ∙ ap (λ (r : Result Lesson LearnFault). r >>= λ l. Ok (noted book t.name l))
+    (filled_lesson book t.name t.known t.lesson request c t.said has (λ s says. tagged s (t.says ∙ ap Ok says)) t.teaches)
     ∙ ap Ok t.made
+
+-- the record is the content's
+its_name : (request : Request) (c : Content) (name : RecordName) → carried request ≡ Some c → subject request ≡ Some name → content_name c ≡ name
+its_name (Create content) c name has about = cc
+its_name (Retrieve kind id m n) c name has about = absurd (cc)
+its_name (Search kind wanted start count) c name has about = absurd (cc)
+its_name (Replace id content m n) c name has about = cc
+
+put_there : (book : Book) (name : RecordName) (known : Known) → put book name known name ≡ Some known
+put_there book name known = ap (λ (b : Bool). cond b (Some known) (book name)) ((same_names name name).1 refl)
+
+-- what is learnt under a tag that stands in
+record Tagged (book : Book) (request : Request) (answer : Answer) (name : RecordName) (learning : Learning) : Type 0 where
+  tagged : Learning
+  learns : learn_at Versions book request (answer_under no_version answer) ≡ Ok tagged
+  learnt : learning.learnt ≡ tagged.learnt
+  forgets : learning.book name ≡ option_map forgotten (tagged.book name)
+
+module _ (book : Book) (request : Request) (c : Content) (answer : Answer) (learning : Learning) (s : ShownRecord) (has : carried request ≡ Some c) (shows : finding request answer ≡ Ok (Shows s))
+    (none : s.version ≡ None) (t : Steps Versions book request answer learning) where
+  asked_so : asked_lesson book t.name t.known c s ≡ Ok t.lesson
+  asked_so =
+      let same : t.said ≡ Shows s = let both : ◌≡◌ {A = Result Finding LearnFault} (Ok t.said) (Ok (Shows s)) = sym t.says ∙ shows in cc in
+      ap (λ (o : Option Content). lesson_at Versions book t.name t.known o (Shows s)) (sym has) ∙ ap (lesson_at Versions book t.name t.known (carried request)) (sym same) ∙ t.teaches
+
+  teaches_untagged : (says t.name c s ≡ true) × Untagged book t.name t.known (standing_for c s) t.lesson
+  teaches_untagged =
+      let (test, learns) = was_asked book t.name t.known t.lesson c s asked_so in
+      (test, under_no_tag book t.name t.known (standing_for c s) t.lesson (ap (λ (o : Option (List ℕ)). lesson_under o book t.name t.known (standing_for c s)) (sym none) ∙ learns))
+
+  unseen_so : Tagged book request answer t.name learning
+  unseen_so =
+      let (test, u) = teaches_untagged in
+      let under = shown_under no_version s in
+      let m = u.tagged in
+      record {
+        tagged = noted book t.name m;
+        learns =
+            learn_is Versions book request (answer_under no_version answer) t.name t.known (Shows under) t.about t.in_book (finding_with (shown_under no_version) request answer (Shows s) shows)
+            ∙ ap (λ (o : Option Content). lesson_at Versions book t.name t.known o (Shows under) >>= λ l. Ok (noted book t.name l)) has
+            ∙ ap (λ (b : Bool). (fault_unless Unfit b >>= λ _. shown_lesson book t.name t.known (standing_for c under)) >>= λ l. Ok (noted book t.name l)) test
+            ∙ ap (λ (r : Result Lesson LearnFault). r >>= λ l. Ok (noted book t.name l)) u.learns;
+        learnt = ap (λ (x : Learning). x.learnt) (sym t.made) ∙ ap (λ (l : Lesson). l.learnt) (sym u.is);
+        forgets =
+            ap (λ (x : Learning). x.book t.name) (sym t.made) ∙ put_there book t.name t.lesson.known ∙ ap (λ (l : Lesson). Some l.known) (sym u.is)
+            ∙ ap (option_map forgotten) (sym (put_there book t.name m.known));
+      }
+
+out_of_sight : (book : Book) (request : Request) (c : Content) (answer : Answer) (learning : Learning) (s : ShownRecord) → carried request ≡ Some c → finding request answer ≡ Ok (Shows s) → s.version ≡ None
+    → learn_at Versions book request answer ≡ Ok learning
+    → (tagged : Learning) × (learn_at Versions book request (answer_under no_version answer) ≡ Ok tagged) × (learning.learnt ≡ tagged.learnt)
+    × (learning.book (content_name c) ≡ option_map forgotten (tagged.book (content_name c)))
+out_of_sight book request c answer learning s has shows none is =
+    let t = steps_of Versions book request answer learning is in
+    let u = subst (λ (name : RecordName). Tagged book request answer name learning) (sym (its_name request c t.name has t.about)) (unseen_so book request c answer learning s has shows none t) in
+    (u.tagged, u.learns, u.learnt, u.forgets)
 
 -- ---- a search
 
@@ -304,7 +379,7 @@ another c s (inr active) = and_false (same_name (content_name c) (content_name s
 module _ (book : Book) (name : RecordName) (known : Known) (c : Content) (s : ShownRecord) (other : says name c s ≡ false) where
   -- nothing is learnt from it
   unasked : asked_lesson book name known c s ≡ Err Unfit
-  unasked = ap (λ (b : Bool). fault_unless Unfit b >>= λ _. shown_lesson book name known (standing_for c s)) other
+  unasked = ap (λ (b : Bool). fault_unless Unfit b >>= λ _. lesson_under s.version book name known (standing_for c s)) other
 
 one_of : (x s : ShownRecord) (place : ℕ) → slice_get (x ∷ []) place ≡ Some s → x ≡ s
 one_of x s zero at = cc
@@ -369,8 +444,8 @@ mapped (x ∷ xs) zero s at =
     sym (ap (λ (t : ShownRecord). content_revision t.content) same) ∙ revision-with None x.content
 mapped (x ∷ xs) (suc place) s at = mapped xs place s at
 
-forgotten : (answer : Answer) (place : ℕ) (s : ShownRecord) → slice_get (resources_of (forgot answer)) place ≡ Some s → content_revision s.content ≡ None
-forgotten answer place s at =
+shows_none : (answer : Answer) (place : ℕ) (s : ShownRecord) → slice_get (resources_of (forgot answer)) place ≡ Some s → content_revision s.content ≡ None
+shows_none answer place s at =
     mapped (resources_of answer) place s (subst (λ (xs : List ShownRecord). slice_get xs place ≡ Some s) (resources-with (shown_with None) answer) at)
 
 pub stand_for_what_was_asked : StandForWhatWasAsked
@@ -378,8 +453,9 @@ stand_for_what_was_asked = record {
   created = created;
   replaced = replaced;
   learnt = learnt;
+  out_of_sight = out_of_sight;
   searched = searched;
   only_seen = searches_only_see;
   refused = refused;
-  forgotten = forgotten;
+  forgotten = shows_none;
 }

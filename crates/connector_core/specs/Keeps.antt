@@ -3,12 +3,13 @@
 -- Most providers drop the source extension, so no answer of theirs shows a revision. In its place the answer to the
 -- connector's own creation or replacement stands for what was asked. A search stands for no revision: what was found is
 -- seen, confirms nothing, and is replaced under the tag that was seen.
-use Rattle.std.specs.Prelude.{Bool, ◌&&◌, List, [], ◌∷◌, map, Option, Some, None, Result, Ok}
+use Rattle.std.specs.Prelude.{ℕ, Bool, ◌&&◌, List, [], ◌∷◌, map, Option, Some, None, Result, Ok}
 use Rattle.scim_key.specs.Outcome.{◌>>=◌}
 use Rattle.scim_key.specs.Revisions.{RevisionValue, no_revision}
 use Rattle.scim_key.specs.declared.records.RecordName.{RecordName}
+use Rattle.scim_version.specs.Tags.{version_tag}
 use Rattle.scim_resource.specs.Contents.{content_name, content_with}
-use Rattle.scim_resource.specs.Rows.{ShownRecord}
+use Rattle.scim_resource.specs.Rows.{ShownRecord, shown_under}
 use Rattle.scim_resource.specs.declared.contents.Content.{Content}
 use Rattle.scim_message.specs.declared.messages.Request.{Request}
 use Rattle.scim_message.specs.declared.messages.Request.TheVariants.{Create, Retrieve, Search, Replace}
@@ -16,13 +17,14 @@ use Rattle.scim_message.specs.declared.messages.Answer.{Answer}
 pub use Rattle.scim_message.specs.Messages.{answer_with, resources_of}
 use Rattle.comparing.specs.Aspects.{is_active, same_flag}
 use Rattle.connector_core.specs.History.{same_name}
-use Rattle.connector_core.specs.Book.{Book}
+use Rattle.connector_core.specs.Book.{Book, forgotten}
 use Rattle.connector_core.specs.Learning.{Finding, Shows, Shows_none, Taken, Stale, Learning, Lesson, or_fault}
 use Rattle.connector_core.specs.Learning.{fault_unless, subject, finding, shown_lesson, differing, lesson, noted}
 use Rattle.connector_core.specs.declared.knowledge.Known.{Known}
 use Rattle.connector_core.specs.declared.learning.LearnFault.{LearnFault}
 use Rattle.connector_core.specs.declared.learning.LearnFault.TheVariants.{Unfit, Unversioned, NoSuchRecord}
 use Rattle.connector_core.specs.declared.keeps.Keeps.{Keeps}
+use Rattle.connector_core.specs.declared.keeps.TheConstants.{NO_VERSION}
 use Rattle.connector_core.specs.declared.keeps.Keeps.TheVariants.{Revisions, Versions}
 
 -- ---- the provider
@@ -70,11 +72,25 @@ carried (Replace id content if_match if_none_match) = Some content
 abbrev pub says : RecordName → Content → ShownRecord → Bool
 says name content s = same_name name (content_name s.content) && same_flag (is_active content) (is_active s.content)
 
+-- the same lesson, but nothing is in sight
+abbrev pub unseen : Lesson → Lesson
+unseen l = record { known = forgotten l.known; learnt = l.learnt }
+
+-- what stands in the place of a version that isn't shown
+abbrev pub no_version : List ℕ
+no_version = version_tag NO_VERSION
+
+-- What is learnt from a resource with this tag, if it has one. Without a tag all is learnt that is learnt under any, but
+-- the resource isn't in sight: the next change searches for it first
+abbrev pub lesson_under : (tag : Option (List ℕ)) → Book → RecordName → Known → ShownRecord → Result Lesson LearnFault
+lesson_under (Some tag) book name known s = shown_lesson book name known s
+lesson_under None book name known s = shown_lesson book name known (shown_under no_version s) >>= λ l. Ok (unseen l)
+
 -- an answer that shows what was asked stands for it
 abbrev pub asked_lesson : Book → RecordName → Known → Content → ShownRecord → Result Lesson LearnFault
 asked_lesson book name known content s = do
   _ ← fault_unless Unfit (says name content s)
-  shown_lesson book name known (standing_for content s)
+  lesson_under s.version book name known (standing_for content s)
 
 -- A resource that a search shows is only seen, at no revision, if it has the record's name and a tag. Its id is known
 -- once an answer confirms; a doubt stays until then

@@ -13,13 +13,14 @@ use Rattle.scim_filter.specs.Expressions.{Expression}
 use Rattle.scim_message.specs.declared.messages.Request.{Request}
 use Rattle.scim_message.specs.declared.messages.Request.TheVariants.{Create, Search, Replace}
 use Rattle.scim_message.specs.declared.messages.Answer.{Answer}
+use Rattle.scim_message.specs.Messages.{answer_under}
 use Rattle.comparing.specs.Aspects.{is_active}
 use Rattle.journal_core.specs.Memory.{MemoryRecord}
 use Rattle.journal_core.specs.MemoryLaws.{memory_faults}
 use Rattle.connector_core.specs.Asking.{asking, replacement}
-use Rattle.connector_core.specs.Book.{Book}
+use Rattle.connector_core.specs.Book.{Book, forgotten}
 use Rattle.connector_core.specs.Changing.{CountsChange}
-use Rattle.connector_core.specs.Keeps.{carried, filled, forgot, learn_at, resources_of}
+use Rattle.connector_core.specs.Keeps.{carried, filled, forgot, learn_at, no_version, resources_of}
 use Rattle.connector_core.specs.declared.keeps.Keeps.TheVariants.{Versions}
 use Rattle.connector_core.specs.Learning.{Learning, Shows, after_learning, finding, learn}
 use Rattle.connector_core.specs.Maps.{BookMap, MapsAreBooks}
@@ -68,10 +69,17 @@ pub record StandForWhatWasAsked : Type 0 where
   pub replaced : (id : List ℕ) (content : Content) (if_match if_none_match : Condition) (answer : Answer) (s : ShownRecord)
       → finding (Replace id content if_match if_none_match) (filled (Replace id content if_match if_none_match) answer)
       ≡ Ok (Shows s) → s.content ≡ content
-  -- what is learnt from it is what an answer teaches that shows that
+  -- what is learnt from it, if what it shows has a tag, is what an answer teaches that shows that
   pub learnt : (book : Book) (request : Request) (content : Content) (answer : Answer) (learning : Learning)
-      → carried request ≡ Some content → learn_at Versions book request answer ≡ Ok learning
-      → learn book request (filled request answer) ≡ Ok learning
+      → carried request ≡ Some content → ((s : ShownRecord) → finding request answer ≡ Ok (Shows s) → s.version ≢ None)
+      → learn_at Versions book request answer ≡ Ok learning → learn book request (filled request answer) ≡ Ok learning
+  -- without a tag it teaches what it teaches under one, but the record isn't in sight
+  pub out_of_sight : (book : Book) (request : Request) (content : Content) (answer : Answer) (learning : Learning)
+      (s : ShownRecord) → carried request ≡ Some content → finding request answer ≡ Ok (Shows s) → s.version ≡ None
+      → learn_at Versions book request answer ≡ Ok learning
+      → (tagged : Learning) × (learn_at Versions book request (answer_under no_version answer) ≡ Ok tagged)
+      × (learning.learnt ≡ tagged.learnt)
+      × (learning.book (content_name content) ≡ option_map forgotten (tagged.book (content_name content)))
   -- a search: a resource at no revision
   pub searched : (kind : Kind) (wanted : Option Expression) (start : ℤ) (count : Option ℤ) (answer : Answer) (s : ShownRecord)
       → finding (Search kind wanted start count) (filled (Search kind wanted start count) answer) ≡ Ok (Shows s)

@@ -1,5 +1,5 @@
 //! Whether a shown resource is the record's, and the news in it.
-ghost use Rattle.std.specs.Prelude.{◌≡◌, ◌≢◌, ◌↔◌, ◌⊎◌, ℕ, true, Some, IfErr, IfOk, IfSome};
+ghost use Rattle.std.specs.Prelude.{◌≡◌, ◌≢◌, ◌↔◌, ◌⊎◌, ℕ, true, None, Some, IfErr, IfOk, IfSome};
 ghost use Rattle.std.specs.Str.{bytes_eq};
 ghost use Rattle.scim_key.specs.Names.{key_of};
 ghost use Rattle.scim_key.specs.Outcome.{Gives, GivesBy};
@@ -8,13 +8,13 @@ ghost use Rattle.scim_resource.specs.Contents.{content_name, content_revision};
 ghost use Rattle.source_csv.specs.Records.{row_revision};
 ghost use Rattle.connector_core.specs.Book.{learning};
 ghost use Rattle.connector_core.specs.History.{same_name};
-ghost use Rattle.connector_core.specs.Keeps.{asked_lesson, carried, lesson_at, only_seen, says, standing_for, unshown_lesson};
+ghost use Rattle.connector_core.specs.Keeps.{asked_lesson, carried, lesson_at, lesson_under, only_seen, says, standing_for, unseen, unshown_lesson};
 ghost use Rattle.connector_core.specs.Learning as spec;
 ghost use Rattle.connector_core.specs.Maps.{book_of};
 ghost use Rattle.connector_core.specs.Noting.{CountsLearn, IsFit, IsNewsOf, lesson_of, within};
 
 use crate::books::Book;
-use crate::keeps::Keeps;
+use crate::keeps::{Keeps, NO_VERSION};
 use crate::knowledge::{Known, Seen};
 use crate::learning::{LearnFault, Learnt};
 use comparing::{is_active, is_as_wanted};
@@ -315,6 +315,70 @@ fn says(name: &RecordName, content: &Content, shown: &Shown) -> bool
     is_named(name, shown.content()) && is_active(content) == is_active(shown.content())
 }
 
+/// The same news, but nothing is in sight.
+fn unseen(known: &Known, news: News) -> News
+    requires { IsNewsOf known.now news }
+    ensures gives { lesson_of known.now result ≡ unseen (lesson_of known.now news) }
+    ensures news { IsNewsOf known.now result }
+{
+    let was_doubted = known.is_doubted;
+    match news {
+        News::Lasting {
+            confirmed,
+            id,
+            seen,
+            learnt,
+        } => {
+            drop(seen);
+            News::Lasting {
+                confirmed,
+                id,
+                seen: Seen::Unknown,
+                learnt,
+            }
+        }
+        News::Passing {
+            seen,
+            is_doubted,
+            learnt,
+        } => {
+            drop(seen);
+            News::Passing {
+                seen: Seen::Unknown,
+                is_doubted,
+                learnt,
+            }
+        }
+        News::Nothing => News::Passing {
+            seen: Seen::Unknown,
+            is_doubted: was_doubted,
+            learnt: Learnt::Nothing,
+        },
+    }
+}
+
+/// The news from a shown resource without an entity tag that stands for a content: all that is learnt under any tag, but
+/// the resource isn't in sight.
+fn untagged_as(
+    alloc: Global,
+    book: &Book,
+    name: &RecordName,
+    known: &Known,
+    content: &Content,
+    shown: &Shown,
+) -> Result<News, LearnFault>
+    requires { shown.now.version ≡ None }
+    ensures gives { GivesBy (lesson_of known.now) LearnFault.Memory result
+        (lesson_under None (book_of book.now) name.now known.now (standing_for content.now shown.now)) }
+    ensures news { IfOk result (IsNewsOf known.now) }
+    ensures counted { IfErr result (λ fault. (n : ℕ) → CountsLearn n n fault) }
+{
+    let untagged = Shown::without_tag(alloc, shown.id(), content.clone()?)?;
+    let tagged = untagged.under_version(alloc, NO_VERSION)?;
+    let news = shown_as(alloc, book, name, known, content, &tagged)?;
+    Ok(unseen(known, news))
+}
+
 /// The news from a resource that the answer to a creation or a replacement shows without its revision: it stands for
 /// the content that was asked for.
 fn asked(
@@ -333,7 +397,10 @@ fn asked(
     if !says(name, content, shown) {
         return Err(LearnFault::Unfit);
     }
-    shown_as(alloc, book, name, known, content, shown)
+    match shown.version() {
+        Some(_) => shown_as(alloc, book, name, known, content, shown),
+        None => untagged_as(alloc, book, name, known, content, shown),
+    }
 }
 
 /// The news from a resource that a search shows without its revision: it is only seen.

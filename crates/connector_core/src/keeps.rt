@@ -9,3 +9,6 @@ pub enum Keeps {
     /// No source extension: an answer to a creation or a replacement stands for what was asked.
     Versions,
 }
+
+/// The version that stands in the place of one that isn't shown. No counter of versions begins so low.
+pub const NO_VERSION: u64 = 0;

@@ -23,7 +23,7 @@ pub use accepting::{
 pub use asking::{Ask, AskFault, MOST_EXCHANGES, search_for};
 pub use changing::{ChangeFault, member_at};
 pub use connectors::Connector;
-pub use keeps::Keeps;
+pub use keeps::{Keeps, NO_VERSION};
 pub use knowledge::{Known, Seen};
 pub use laws::{
     answers_stand_for_what_was_asked, learns_by_notes, maps_are_books, memory_never_faults,
