@@ -6,7 +6,7 @@ use Rattle.scim_key.proofs.RevisionLaws.{later_is_one}
 use Rattle.scim_key.specs.Revisions.{RevisionValue, later}
 use Rattle.scim_key.specs.declared.records.RecordName.{RecordName}
 use Rattle.scim_resource.specs.Contents.{content_name, content_revision}
-use Rattle.scim_resource.specs.Rows.{ShownRecord}
+use Rattle.scim_resource.specs.Rows.{ShownRecord, shown_under}
 use Rattle.scim_resource.specs.declared.contents.Content.{Content}
 use Rattle.scim_message.specs.declared.messages.Request.{Request}
 use Rattle.scim_message.specs.declared.messages.Request.TheVariants.{Create, Retrieve, Search, Replace}
@@ -19,7 +19,7 @@ use Rattle.comparing.specs.Aspects.{is_active, same_flag}
 use Rattle.connector_core.specs.History.{same_name}
 use Rattle.connector_core.specs.Book.{Book, confirmed_if, confirmed_of, put}
 use Rattle.connector_core.proofs.Standing.{was_asked, was_seen}
-use Rattle.connector_core.specs.Keeps.{asked_lesson, carried, learn_at, lesson_at, says, standing_for}
+use Rattle.connector_core.specs.Keeps.{asked_lesson, carried, learn_at, lesson_at, no_version, says, standing_for}
 use Rattle.connector_core.specs.declared.keeps.Keeps.TheVariants.{Versions}
 use Rattle.connector_core.specs.Learning.{Finding, Shows, Shows_none, Taken, Stale, Lesson, Learning, absent, nothing_new, none_sighted, forgetting, is_absent, is_under, finding, subject, after_learning}
 use Rattle.connector_core.specs.declared.knowledge.Known.{Known}
@@ -28,7 +28,7 @@ use Rattle.world_model.specs.Safe.{IsAt, Has}
 use Rattle.world_model.specs.Untroubled.{request_content}
 use Rattle.world_model.specs.Providers.{WasAsked, OnlyAnswersConfirm}
 use Rattle.world_model.proofs.Comparing.{wanted_revised}
-use Rattle.world_model.proofs.Learned.{LearnsShown, LearnsShown.sees, LearnsShown.agrees, LearnsShown.differs, LearnsShown.only, learns_shown, learnt_by}
+use Rattle.world_model.proofs.Learned.{LearnsShown, LearnsShown.sees, LearnsShown.agrees, LearnsShown.differs, LearnsShown.only, LearnsShown.hides, asked_shown, learnt_by}
 
 -- ---- what leaves the confirmed revision
 
@@ -116,16 +116,17 @@ module _ (book : Book) (request : Request) (answer : Answer) (name : RecordName)
       | inr second ↦ inr (subst (λ (v : RevisionValue). WasAsked request answer name v) (sym second) (what_was_asked r at_revision))
     ]
 
-    standing_outcome : (l : Lesson) → LearnsShown Versions book name known (standing_for c x) l → Outcome l.known.confirmed
-    standing_outcome l (sees sight fits) = later_outcome sight.revision fits.revision
-    standing_outcome l (agrees tag wanted tagged) = later_outcome (row_revision known.wanted) (wanted_revised book known c wanted)
-    standing_outcome l (differs sight d) = inl refl
-    standing_outcome l (only tag o) = inl refl
+    standing_outcome : (s : ShownRecord) {l : Lesson} → s.content ≡ c → LearnsShown Versions book name known s l → Outcome l.known.confirmed
+    standing_outcome s same (sees sight fits) = later_outcome sight.revision (ap content_revision (sym same) ∙ fits.revision)
+    standing_outcome s same (agrees tag wanted tagged) =
+        later_outcome (row_revision known.wanted) (ap content_revision (sym same) ∙ wanted_revised book known s.content wanted)
+    standing_outcome s same (differs sight d) = inl refl
+    standing_outcome s same (only tag o) = inl refl
+    standing_outcome s same (hides u learns) = standing_outcome (shown_under no_version s) same learns
 
   asked_outcome : (l : Lesson) (c : Content) (x : ShownRecord) → carried request ≡ Some c → finding request answer ≡ Ok (Shows x) → asked_lesson book name known c x ≡ Ok l → Outcome l.known.confirmed
   asked_outcome l c x has shown is =
-      let (test, learns) = was_asked book name known l c x is in
-      standing_outcome c has x shown test l (learns_shown Versions book name known (standing_for c x) l learns)
+      standing_outcome c has x shown (was_asked book name known l c x is).0 (standing_for c x) refl (asked_shown book name known c x l is)
 
   shown_outcome : (l : Lesson) (x : ShownRecord) (o : Option Content) → carried request ≡ o → finding request answer ≡ Ok (Shows x) → lesson_at Versions book name known o (Shows x) ≡ Ok l → Outcome l.known.confirmed
   shown_outcome l x None has shown is = let (seen, made) = was_seen name known x l is in inl (ap (λ (y : Lesson). y.known.confirmed) made)

@@ -1,9 +1,9 @@
 -- An answer shows what the provider holds after the request.
-use Rattle.std.proofs.Common.{◌≡◌, ℕ, zero, suc, ◌+◌, ◌-◌, Bool, true, false, cond, List, [], ◌∷◌, ◌++◌, Option, Some, None, map, take, drop, length, refl, ap, sym, ◌∙◌, subst, arith}
+use Rattle.std.proofs.Common.{◌≡◌, ℕ, zero, suc, ◌+◌, ◌-◌, Bool, true, false, cond, List, [], ◌∷◌, ◌++◌, Option, Some, None, map, take, drop, length, refl, ap, sym, subst, arith}
 use Rattle.std.specs.List.{find, filter, slice_get}
 use Rattle.scim_key.specs.declared.records.Kind.{Kind}
 use Rattle.scim_version.specs.declared.conditions.Condition.{Condition}
-use Rattle.scim_resource.specs.Contents.{content_kind, content_name}
+use Rattle.scim_resource.specs.Contents.{content_kind}
 use Rattle.scim_resource.specs.Rows.{ShownRecord, shown}
 use Rattle.scim_resource.specs.declared.contents.Content.{Content}
 use Rattle.scim_filter.specs.Expressions.{Expression}

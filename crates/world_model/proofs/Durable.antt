@@ -55,7 +55,7 @@ use Rattle.world_model.proofs.Imaging.{image_more, image_name, image_revision}
 use Rattle.world_model.proofs.Invariant.{message_there}
 use Rattle.world_model.proofs.Judging.{event_follows, judged_by_source}
 use Rattle.world_model.proofs.Keeping.{step_grows}
-use Rattle.world_model.proofs.Learned.{LearnsShown, LearnsShown.sees, LearnsShown.agrees, LearnsShown.differs, LearnsShown.only, Learns, Learns.shows, Learns.misses, Learns.is_taken, Learns.is_stale, learnt_by, never_only, shows_first}
+use Rattle.world_model.proofs.Learned.{LearnsShown, LearnsShown.sees, LearnsShown.agrees, LearnsShown.differs, LearnsShown.only, LearnsShown.hides, Learns, Learns.shows, Learns.misses, Learns.is_taken, Learns.is_stale, learnt_by, never_hidden, never_only, shows_first}
 use Rattle.world_model.proofs.Lists.{last_has}
 use Rattle.world_model.proofs.Noting.{none_sighted_id, forgetting_id}
 use Rattle.world_model.proofs.Sending.{asked_of, sends_of, row_of_record, wanted_of}
@@ -279,6 +279,7 @@ module _ (es : List Entry) (whole : IsWholeTable es) (book : Book) (name : Recor
         (subst (λ (r : RevisionValue). r ≼ row_revision known.wanted) (sym d.revision) (not-true _ d.within)) refl;
   }
   shown_true s fact (only tag o) = never_only o
+  shown_true s fact (hides u learns) = never_hidden u
 
   absent_seen : IsSeenTrue es name (absent known).known
   absent_seen id tag r at = absurd (cc)

@@ -20,8 +20,7 @@ use Rattle.provider_core.proofs.TableLaws.{at_more, at_one, at_push, at_renew, g
 use Rattle.source_csv.specs.declared.rows.Row.{Row}
 use Rattle.connector_core.specs.History.{History}
 use Rattle.connector_core.specs.Asking.{asking}
-use Rattle.connector_core.specs.Book.{Book}
-use Rattle.connector_core.specs.Learning.{shown_revision, learn, after_learning}
+use Rattle.connector_core.specs.Learning.{shown_revision}
 use Rattle.connector_core.specs.declared.accepting.Verdict.{Verdict}
 use Rattle.connector_core.specs.declared.accepting.Verdict.TheVariants as verdicts
 use Rattle.connector_core.specs.declared.asking.Ask.{Ask}
@@ -30,7 +29,7 @@ use Rattle.connector_core.specs.declared.changing.ChangeFault.{ChangeFault}
 use Rattle.world_model.specs.Invariant.{Names}
 use Rattle.world_model.specs.Others.{Act, Ours, Theirs, acts, LeavesAlone, IsApart}
 use Rattle.world_model.specs.Safe.{IsAt, IsImage}
-use Rattle.world_model.specs.World.{World, Message, Asked, Answered, Event, Changes, Sends, Delivers, Cuts, Restarts_provider, Restarts_connector, Doubts, changes, sends, arrives, delivers, message_at, happens, judged}
+use Rattle.world_model.specs.World.{World, Message, Asked, Answered, Event, Changes, Sends, Delivers, Cuts, Restarts_provider, Restarts_connector, Doubts, changes, sends, delivers, message_at, happens, judged}
 use Rattle.world_model.proofs.Accepting.{rows_stay}
 use Rattle.world_model.proofs.Durable.{Renews, AskedFairly, Durable}
 use Rattle.world_model.proofs.Growing.{Grows, image_grows}

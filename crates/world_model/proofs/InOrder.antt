@@ -35,7 +35,7 @@ use Rattle.world_model.specs.Untroubled.{IsLawful}
 use Rattle.world_model.specs.World.{World, Message, Asked, Answered, Event, Changes, Sends, Delivers, Cuts, Restarts_provider, Restarts_connector, Doubts, changes, sends, delivers, message_at, happens, judged, empty}
 use Rattle.world_model.proofs.Accepting.{new_by_source}
 use Rattle.world_model.proofs.Judging.{event_follows, judged_by_source}
-use Rattle.world_model.proofs.Learned.{LearnsShown, LearnsShown.sees, LearnsShown.agrees, LearnsShown.differs, LearnsShown.only, Learns, Learns.shows, Learns.misses, Learns.is_taken, Learns.is_stale, learnt_by}
+use Rattle.world_model.proofs.Learned.{LearnsShown, LearnsShown.sees, LearnsShown.agrees, LearnsShown.differs, LearnsShown.only, LearnsShown.hides, Learns, Learns.shows, Learns.misses, Learns.is_taken, Learns.is_stale, learnt_by, never_hidden}
 use Rattle.world_model.proofs.Making.{put_one}
 use Rattle.world_model.proofs.Order.{later_within}
 
@@ -89,6 +89,7 @@ module _ (book : Book) (name : RecordName) (known : Known) (within : IsWithin kn
   shown_within s (agrees tag wanted tagged) = later_within known.confirmed (row_revision known.wanted) (row_revision known.wanted) within (reflexive_up_to (row_revision known.wanted))
   shown_within s (differs sight d) = within
   shown_within s (only tag o) = within
+  shown_within s (hides u learns) = never_hidden u
 
   lesson_within : {said : Finding} {l : Lesson} → Learns Revisions book name known said l → IsWithin l.known
   lesson_within (shows s l learns) = shown_within s learns

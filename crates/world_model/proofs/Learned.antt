@@ -1,12 +1,13 @@
 -- Learning by cases: what was learnt of one record, from a resource that an answer shows or from no resource.
-use Rattle.std.proofs.Common.{◌≡◌, ℕ, ◌==◌, Bool, true, false, cond, not, List, [], ◌∷◌, Some, Result, Ok, Err, refl, ap, sym, ◌∙◌, subst, inl, inr}
+use Rattle.std.proofs.Common.{◌≡◌, ℕ, ◌==◌, Bool, true, false, cond, not, List, [], ◌∷◌, Option, Some, None, Result, Ok, Err, refl, ap, sym, ◌∙◌, subst, inl, inr}
 use Rattle.std.proofs.lemmas.Bool.{cases_Bool}
 use Rattle.scim_key.specs.Outcome.{◌>>=◌}
 use Rattle.scim_key.specs.Revisions.{RevisionValue, before, no_revision}
 use Rattle.scim_key.specs.declared.records.RecordName.{RecordName}
 use Rattle.scim_version.specs.declared.conditions.Condition.{Condition}
 use Rattle.scim_resource.specs.Contents.{content_name}
-use Rattle.scim_resource.specs.Rows.{ShownRecord}
+use Rattle.scim_resource.specs.Rows.{ShownRecord, shown_under}
+use Rattle.scim_resource.specs.declared.contents.Content.{Content}
 use Rattle.scim_message.specs.declared.messages.Request.{Request}
 use Rattle.scim_message.specs.declared.messages.Request.TheVariants.{Create, Retrieve, Search, Replace}
 use Rattle.scim_message.specs.declared.messages.Answer.{Answer}
@@ -16,10 +17,10 @@ use Rattle.provider_core.specs.Tables.{shown_in}
 use Rattle.source_csv.specs.Records.{row_revision}
 use Rattle.connector_core.specs.History.{same_name}
 use Rattle.connector_core.specs.Book.{Book, put}
-use Rattle.connector_core.specs.Keeps.{carried, filling, heard, learn_at, lesson_at, only_seen, shown_with, standing_for}
+use Rattle.connector_core.specs.Keeps.{asked_lesson, carried, filling, heard, learn_at, lesson_at, lesson_under, no_version, only_seen, shown_with, standing_for, unseen}
 use Rattle.connector_core.specs.declared.keeps.Keeps.{Keeps}
 use Rattle.connector_core.specs.declared.keeps.Keeps.TheVariants.{Revisions, Versions}
-use Rattle.connector_core.proofs.Standing.{finding_with, passed, said_with, steps_of, through, was_asked, was_seen, was_there}
+use Rattle.connector_core.proofs.Standing.{finding_with, passed, said_with, steps_of, through, under_no_tag, was_asked, was_seen, was_there}
 use Rattle.world_model.proofs.Hearing.{name_with, revision_with}
 use Rattle.connector_core.specs.Learning.{or_fault, fault_unless, Finding, Shows, Shows_none, Taken, Stale, Sight, fit, fits_id, listed, sighted, none_sighted, is_wanted, shown_revision, fit_differing, differing, agreeing, compared, shown_lesson, forgetting, is_absent, is_under, Lesson, lesson, finding, subject, content_revision, Learning, noted}
 use Rattle.connector_core.specs.declared.knowledge.Known.{Known}
@@ -156,16 +157,26 @@ pub record Unshown (keeps : Keeps) (name : RecordName) (s : ShownRecord) (tag : 
   pub revision : content_revision s.content ≡ Some no_revision
   pub tagged : s.version ≡ Some tag
 
--- the record's resource; of a doubted record one that is as it is wanted, or another; or one that is only seen
-pub data LearnsShown (keeps : Keeps) (book : Book) (name : RecordName) (known : Known) (s : ShownRecord) : Lesson → Type 0 where
-  sees : (sight : Sight) → Fits name known s sight → LearnsShown keeps book name known s (sighted known sight)
-  agrees : (tag : List ℕ) → is_wanted book known s.content ≡ true → s.version ≡ Some tag → LearnsShown keeps book name known s (agreeing known s.id tag)
-  differs : (sight : Sight) → Differs book name known s sight → LearnsShown keeps book name known s (differing known sight)
-  only : (tag : List ℕ) → Unshown keeps name s tag → LearnsShown keeps book name known s (differing known (record { id = s.id; revision = no_revision; tag = tag }))
+-- a resource without a tag, where no revision is shown
+pub record Untagged (keeps : Keeps) (s : ShownRecord) : Type 0 where
+  pub kind : keeps ≡ Versions
+  pub untagged : s.version ≡ None
+
+-- The record's resource; of a doubted record one that is as it is wanted, or another; or one that is only seen. Without a
+-- tag it isn't in sight
+pub data LearnsShown (keeps : Keeps) (book : Book) (name : RecordName) (known : Known) : ShownRecord → Lesson → Type 0 where
+  sees : {s : ShownRecord} (sight : Sight) → Fits name known s sight → LearnsShown keeps book name known s (sighted known sight)
+  agrees : {s : ShownRecord} (tag : List ℕ) → is_wanted book known s.content ≡ true → s.version ≡ Some tag → LearnsShown keeps book name known s (agreeing known s.id tag)
+  differs : {s : ShownRecord} (sight : Sight) → Differs book name known s sight → LearnsShown keeps book name known s (differing known sight)
+  only : {s : ShownRecord} (tag : List ℕ) → Unshown keeps name s tag → LearnsShown keeps book name known s (differing known (record { id = s.id; revision = no_revision; tag = tag }))
+  hides : {s : ShownRecord} {l : Lesson} → Untagged keeps s → LearnsShown keeps book name known (shown_under no_version s) l → LearnsShown keeps book name known s (unseen l)
 
 -- where revisions are shown, nothing is only seen
 pub never_only : {A : Type 0} {name : RecordName} {s : ShownRecord} {tag : List ℕ} → Unshown Revisions name s tag → A
 never_only o = let wrong : Revisions ≡ Versions = o.kind in absurd (cc)
+
+pub never_hidden : {A : Type 0} {s : ShownRecord} → Untagged Revisions s → A
+never_hidden u = let wrong : Revisions ≡ Versions = u.kind in absurd (cc)
 
 -- a resource in sight, nothing new, nothing there, or something forgotten
 pub data Learns (keeps : Keeps) (book : Book) (name : RecordName) (known : Known) : Finding → Lesson → Type 0 where
@@ -213,13 +224,24 @@ module _ (book : Book) (name : RecordName) (known : Known) where
       subst (LearnsShown Versions book name known as_none) (sym made)
       (only seen.tag (record { kind = refl; named = ap (same_name name) (name_with (Some no_revision) s.content) ∙ seen.named; revision = revision_with (Some no_revision) s.content; tagged = seen.tagged }))
 
+  pub asked_shown : (c : Content) (s : ShownRecord) (l : Lesson) → asked_lesson book name known c s ≡ Ok l → LearnsShown Versions book name known (standing_for c s) l
+  asked_shown c s l is = go s.version refl (was_asked book name known l c s is).1
+    where
+      go : (tag : Option (List ℕ)) → s.version ≡ tag → lesson_under tag book name known (standing_for c s) ≡ Ok l → LearnsShown Versions book name known (standing_for c s) l
+      go (Some tag) has learns = learns_shown Versions book name known (standing_for c s) l learns
+      go None none learns =
+          let u = under_no_tag book name known (standing_for c s) l learns in
+          let under : ShownRecord = shown_under no_version (standing_for c s) in
+          subst (LearnsShown Versions book name known (standing_for c s)) u.is
+          (hides (record { kind = refl; untagged = none }) (learns_shown Versions book name known under u.tagged u.learns))
+
   pub learns_at : (keeps : Keeps) (request : Request) (s : ShownRecord) (l : Lesson) → lesson_at keeps book name known (carried request) (Shows s) ≡ Ok l
       → LearnsShown keeps book name known (standing_at keeps request s) l
   learns_at Revisions request s l is = learns_shown Revisions book name known s l is
-  learns_at Versions (Create c) s l is = learns_shown Versions book name known (standing_for c s) l (was_asked book name known l c s is).1
+  learns_at Versions (Create c) s l is = asked_shown c s l is
   learns_at Versions (Retrieve kind id m n) s l is = seen_of s l is
   learns_at Versions (Search kind wanted start count) s l is = seen_of s l is
-  learns_at Versions (Replace id c m n) s l is = learns_shown Versions book name known (standing_for c s) l (was_asked book name known l c s is).1
+  learns_at Versions (Replace id c m n) s l is = asked_shown c s l is
 
   misses_of : (keeps : Keeps) (l : Lesson) → none_sighted known.id known ≡ l → Learns keeps book name known Shows_none l
   misses_of keeps l same = subst (Learns keeps book name known Shows_none) same misses

@@ -20,7 +20,7 @@ use Rattle.provider_core.proofs.TableLaws.{same_if_eq}
 use Rattle.source_csv.specs.Records.{row_revision}
 use Rattle.source_csv.specs.declared.rows.Row.{Row}
 use Rattle.connector_core.specs.History.{Rises, rows_of, same_name}
-use Rattle.connector_core.specs.Keeps.{asked_lesson, carried, lesson_at, only_seen, says, shown_with, standing_for}
+use Rattle.connector_core.specs.Keeps.{asked_lesson, carried, lesson_at, lesson_under, only_seen, says, shown_with, standing_for}
 use Rattle.connector_core.specs.declared.keeps.Keeps.{Keeps}
 use Rattle.connector_core.specs.declared.keeps.Keeps.TheVariants.{Revisions, Versions}
 use Rattle.connector_core.specs.Learning.{or_fault, fault_unless, Finding, Shows, Shows_none, Taken, Stale, fit, fits_id, sighted, is_wanted, or_no_revision, shown_revision, fit_differing, differing, agreeing, compared, shown_lesson, Lesson, lesson, finding, subject, content_revision, noted, learn}
@@ -162,8 +162,9 @@ module _ {keeps : Keeps} {ours : Names} (w : World) (inv : InvariantAt keeps our
   -- so it does from one that shows what was asked, and from one that is only seen
   asked_ok : (c : Content) (s : ShownRecord) → StandsFor w.entries (standing_for c s) → content_name c ≡ name → says name c s ≡ true → IsOk (asked_lesson w.book name known c s)
   asked_ok c s stands named test =
-      ok_after (fault_unless Unfit (says name c s)) (λ _. shown_lesson w.book name known (standing_for c s)) true (passes Unfit (says name c s) test)
-      (shown_ok Versions (standing_for c s) stands named)
+      let u = usable Versions (standing_for c s) stands named in
+      ok_after (fault_unless Unfit (says name c s)) (λ _. lesson_under s.version w.book name known (standing_for c s)) true (passes Unfit (says name c s) test)
+      (subst (λ (tag : Option (List ℕ)). IsOk (lesson_under tag w.book name known (standing_for c s))) (sym u.tagged) (shown_ok Versions (standing_for c s) stands named))
 
   only_ok : (s : ShownRecord) → StandsFor w.entries (shown_with (Some no_revision) s) → content_name s.content ≡ name → IsOk (only_seen name known s)
   only_ok s stands named =

@@ -1,5 +1,5 @@
 -- What the connector knows of records, and that each event leaves it true.
-use Rattle.std.proofs.Common.{◌≡◌, ◌≢◌, ◌⊎◌, ℕ, Bool, true, false, cond, List, Option, Some, None, Result, Ok, Err, inl, inr, refl, ap, sym, ◌∙◌, subst}
+use Rattle.std.proofs.Common.{◌≡◌, ◌≢◌, ◌⊎◌, ℕ, suc, Bool, true, false, cond, List, Option, Some, None, Result, Ok, Err, inl, inr, refl, ap, sym, ◌∙◌, subst}
 use Rattle.std.proofs.lemmas.Bool.{cases_Bool, not-true}
 use Rattle.std.specs.Option.{option_map}
 use Rattle.scim_key.proofs.RevisionLaws.{none_first, reflexive_up_to, transitive, up_to_before, transitive_up_to, later_above_second, later_is_one}
@@ -7,7 +7,8 @@ use Rattle.scim_key.proofs.RecordLaws.{same as same_names}
 use Rattle.scim_key.specs.Revisions.{RevisionValue, no_revision, later, ◌≺◌, ◌≼◌}
 use Rattle.scim_key.specs.declared.records.RecordName.{RecordName}
 use Rattle.scim_resource.specs.Contents.{content_name}
-use Rattle.scim_resource.specs.Rows.{ShownRecord}
+use Rattle.scim_version.specs.Tags.{version_tag}
+use Rattle.scim_resource.specs.Rows.{ShownRecord, shown_under}
 use Rattle.scim_message.specs.declared.messages.Request.{Request}
 use Rattle.scim_message.specs.declared.messages.Answer.{Answer}
 use Rattle.provider_core.specs.Stories.{Entry, AllGoOn}
@@ -16,7 +17,7 @@ use Rattle.source_csv.specs.Records.{row_name, row_revision}
 use Rattle.source_csv.specs.declared.rows.Row.{Row}
 use Rattle.connector_core.specs.History.{same_name}
 use Rattle.connector_core.specs.Book.{Book, known_id, put, wanting, wanting_now, with_row, seeing, forgotten, undoubted, doubting, doubted, reopened}
-use Rattle.connector_core.specs.Keeps.{heard, learn_at}
+use Rattle.connector_core.specs.Keeps.{heard, learn_at, no_version}
 use Rattle.connector_core.specs.declared.keeps.Keeps.{Keeps}
 use Rattle.connector_core.specs.declared.keeps.Keeps.TheVariants.{Revisions, Versions}
 use Rattle.connector_core.specs.Learning.{Finding, Shows, Sight, sighted, seen_at, content_revision, is_wanted, or_no_revision, shown_revision, differing, absent, nothing_new, none_sighted, forgetting, is_absent, is_under, Lesson, Learning, after_learning}
@@ -32,7 +33,7 @@ use Rattle.mapping.specs.Readiness.{GoesOn}
 use Rattle.world_model.proofs.Comparing.{wanted_named, wanted_revised}
 use Rattle.world_model.proofs.Hearing.{name_with, revision_with}
 use Rattle.world_model.proofs.Making.{put_ids}
-use Rattle.world_model.proofs.Learned.{LearnsShown, LearnsShown.sees, LearnsShown.agrees, LearnsShown.differs, LearnsShown.only, Learns, Learns.shows, Learns.misses, Learns.is_taken, Learns.is_stale, Teaches, learnt_by, never_only, shows_first}
+use Rattle.world_model.proofs.Learned.{LearnsShown, LearnsShown.sees, LearnsShown.agrees, LearnsShown.differs, LearnsShown.only, LearnsShown.hides, Learns, Learns.shows, Learns.misses, Learns.is_taken, Learns.is_stale, Teaches, learnt_by, never_hidden, never_only, shows_first}
 
 -- ---- if the table goes on
 
@@ -235,6 +236,16 @@ record Stood (es : List Entry) (name : RecordName) (known : Known) (s : ShownRec
   up : held ≼ row_revision known.wanted
   shown : (content_revision s.content ≡ Some held) ⊎ (content_revision s.content ≡ Some no_revision)
 
+-- what stands for a version has its tag
+pub its_tag : (es : List Entry) (s : ShownRecord) → StandsFor es s → (tag : List ℕ) × (s.version ≡ Some tag)
+its_tag es s st = (
+  version_tag (suc st.fact.turn),
+  elim st.stands [
+    | inl same ↦ ap (λ (x : ShownRecord). x.version) same ∙ st.fact.version
+    | inr same ↦ ap (λ (x : ShownRecord). x.version) same ∙ st.fact.version
+  ],
+)
+
 module _ (es : List Entry) (book : Book) (name : RecordName) (known : Known) (whole : IsWholeTable es) (compares : Compares es book name known) where
   -- ---- where revisions are shown
   module _ (n : Noted es name known) where
@@ -261,6 +272,7 @@ module _ (es : List Entry) (book : Book) (name : RecordName) (known : Known) (wh
           lower = λ still. subst (λ (x : RevisionValue). x ≺ row_revision known.wanted) its below;
         })
     fact_noted s fact (only tag o) = never_only o
+    fact_noted s fact (hides u learns) = never_hidden u
 
   -- ---- where none is shown
   stood_by : (s t : ShownRecord) (id tag : List ℕ) → IsFact es t → name ≡ content_name t.content → t.version ≡ Some tag → id ≡ t.id
@@ -324,6 +336,7 @@ module _ (es : List Entry) (book : Book) (name : RecordName) (known : Known) (wh
         let st = stood s s.id tag stands ((same_names name (content_name s.content)).0 o.named) o.tagged refl in
         differing_noted Versions es name known sight n (version_id es name sight.id sight.tag st.held whole st.version)
         (record { held = st.held; version = st.version; from = none_first st.held; up = st.up })
+    stands_noted s stands (hides u learns) = let none : None ≡ Some (its_tag es s stands).0 = sym u.untagged ∙ (its_tag es s stands).1 in absurd (cc)
 
   -- ---- either way
   pub shown_noted : (keeps : Keeps) (s : ShownRecord) {l : Lesson} → NotedAt keeps es name known → StandsAt keeps es s → LearnsShown keeps book name known s l → NotedAt keeps es name l.known
@@ -351,14 +364,15 @@ forgetting_id false known = refl
 
 -- a known id stays
 module _ {keeps : Keeps} (es : List Entry) (book : Book) (name : RecordName) (known : Known) (n : NotedAt keeps es name known) (id : List ℕ) (has : known.id ≡ Some id) where
-  pub shown_keeps_id : (s : ShownRecord) {l : Lesson} → NotedAt keeps es name l.known → LearnsShown keeps book name known s l → l.known.id ≡ Some id
-  shown_keeps_id s now (sees sight fits) = sym (now.id sight.id refl) ∙ n.id id has
-  shown_keeps_id s now (agrees tag wanted tagged) = sym (now.id s.id refl) ∙ n.id id has
+  pub shown_keeps_id : (s : ShownRecord) {l : Lesson} → ((i : List ℕ) → l.known.id ≡ Some i → id_in es name ≡ Some i) → LearnsShown keeps book name known s l → l.known.id ≡ Some id
+  shown_keeps_id s now (sees sight fits) = sym (now sight.id refl) ∙ n.id id has
+  shown_keeps_id s now (agrees tag wanted tagged) = sym (now s.id refl) ∙ n.id id has
   shown_keeps_id s now (differs sight d) = has
   shown_keeps_id s now (only tag o) = has
+  shown_keeps_id s now (hides u learns) = shown_keeps_id (shown_under no_version s) now learns
 
   lesson_keeps_id : {said : Finding} {l : Lesson} → NotedAt keeps es name l.known → Learns keeps book name known said l → l.known.id ≡ Some id
-  lesson_keeps_id now (shows s l learns) = shown_keeps_id s now learns
+  lesson_keeps_id now (shows s l learns) = shown_keeps_id s now.id learns
   lesson_keeps_id now misses = none_sighted_id known.id known ∙ has
   lesson_keeps_id now is_taken = forgetting_id (is_absent known.seen) known ∙ has
   lesson_keeps_id now (is_stale if_match) = forgetting_id (is_under if_match known.seen) known ∙ has

@@ -8,7 +8,7 @@ use Rattle.scim_key.proofs.RevisionLaws.{reflexive_up_to, transitive_up_to, late
 use Rattle.scim_key.proofs.RecordLaws.{same as same_names}
 use Rattle.scim_key.specs.Revisions.{◌≼◌}
 use Rattle.scim_key.specs.declared.records.RecordName.{RecordName}
-use Rattle.scim_resource.specs.Rows.{ShownRecord}
+use Rattle.scim_resource.specs.Rows.{ShownRecord, shown_under}
 use Rattle.scim_message.specs.declared.messages.Request.{Request}
 use Rattle.scim_message.specs.declared.messages.Answer.{Answer}
 use Rattle.provider_core.specs.Stories.{step}
@@ -25,13 +25,13 @@ use Rattle.connector_core.specs.declared.asking.Ask.{Ask}
 use Rattle.connector_core.specs.declared.asking.Ask.TheVariants.{Nothing, Waits, Send}
 use Rattle.connector_core.specs.declared.knowledge.Known.{Known}
 use Rattle.connector_core.specs.declared.learning.LearnFault.{LearnFault}
-use Rattle.connector_core.specs.Keeps.{learn_at}
+use Rattle.connector_core.specs.Keeps.{learn_at, no_version}
 use Rattle.connector_core.specs.declared.keeps.Keeps.{Keeps}
 use Rattle.connector_core.specs.declared.keeps.Keeps.TheVariants.{Revisions}
 use Rattle.connector_core.specs.Learning.{Finding, absent, nothing_new, none_sighted, forgetting, is_absent, is_under, Lesson, Learning, after_learning}
 use Rattle.connector_core.specs.declared.changing.ChangeFault.{ChangeFault}
 use Rattle.connector_core.specs.Changing.{history_after, book_after}
-use Rattle.world_model.proofs.Learned.{LearnsShown, LearnsShown.sees, LearnsShown.agrees, LearnsShown.differs, LearnsShown.only, Learns, Learns.shows, Learns.misses, Learns.is_taken, Learns.is_stale, learnt_by}
+use Rattle.world_model.proofs.Learned.{LearnsShown, LearnsShown.sees, LearnsShown.agrees, LearnsShown.differs, LearnsShown.only, LearnsShown.hides, Learns, Learns.shows, Learns.misses, Learns.is_taken, Learns.is_stale, learnt_by}
 use Rattle.world_model.specs.World.{World, Message, Asked, Answered, Event, Changes, Sends, Delivers, Cuts, Restarts_provider, Restarts_connector, Doubts, sends, delivers, message_at, happens, empty, judged, run}
 use Rattle.world_model.specs.Safe.{IsPrefixOf, Onward, AlwaysOnward}
 use Rattle.world_model.specs.Providers.{answered, delivers_at, happens_at, run_at, AlwaysOnwardAt}
@@ -98,6 +98,7 @@ shown_raises book name known s (sees sight fits) = later_above_first known.confi
 shown_raises book name known s (agrees tag is tagged) = later_above_first known.confirmed (row_revision known.wanted)
 shown_raises book name known s (differs sight differing) = reflexive_up_to known.confirmed
 shown_raises book name known s (only tag unshown) = reflexive_up_to known.confirmed
+shown_raises book name known s (hides u learns) = shown_raises book name known (shown_under no_version s) learns
 
 lesson_raises : {keeps : Keeps} (book : Book) (name : RecordName) (known : Known) {said : Finding} {l : Lesson} → Learns keeps book name known said l → Raises known l
 lesson_raises book name known (shows s l learns) = shown_raises book name known s learns

@@ -12,7 +12,7 @@ use Rattle.scim_version.specs.Conditions.{holds_match}
 use Rattle.scim_version.specs.Tags.{version_tag}
 use Rattle.scim_version.specs.declared.conditions.Condition.TheVariants.{Always, Tags}
 use Rattle.scim_resource.specs.Contents.{content_name}
-use Rattle.scim_resource.specs.Rows.{ShownRecord, shown, last_version}
+use Rattle.scim_resource.specs.Rows.{ShownRecord, shown, shown_under, last_version}
 use Rattle.scim_resource.specs.declared.contents.Content.{Content}
 use Rattle.scim_message.specs.declared.messages.Request.{Request}
 use Rattle.scim_message.specs.declared.messages.Request.TheVariants.{Create}
@@ -22,7 +22,7 @@ use Rattle.provider_core.proofs.TableLaws.{held_at, named_found}
 use Rattle.source_csv.specs.Records.{IsRow, row_name, row_revision}
 use Rattle.connector_core.specs.History.{rows_of, last_row}
 use Rattle.connector_core.specs.Asking.{asking, is_done, request_for, search_for, replacement}
-use Rattle.connector_core.specs.Keeps.{carried}
+use Rattle.connector_core.specs.Keeps.{carried, no_version}
 use Rattle.connector_core.specs.declared.keeps.Keeps.{Keeps}
 use Rattle.connector_core.specs.declared.keeps.Keeps.TheVariants.{Revisions, Versions}
 use Rattle.connector_core.specs.Learning.{Shows_none, Taken, Stale, subject, Lesson, Sight, seen_at, sighted, differing, is_wanted, none_sighted, forgetting, is_absent, is_under, content_revision}
@@ -41,7 +41,7 @@ use Rattle.world_model.proofs.Finding.{Finds, Finds.finds, Finds.lacks, search_f
 use Rattle.world_model.proofs.Comparing.{image_wanted}
 use Rattle.world_model.proofs.Hearing.{hearing, hearing_version, hearing_name, hearing_created, hearing_replaced}
 use Rattle.world_model.proofs.Leading.{Leads, leads_to, seen_in, misses_at, taken_at, stale_at}
-use Rattle.world_model.proofs.Learned.{LearnsShown, LearnsShown.sees, LearnsShown.agrees, LearnsShown.differs, LearnsShown.only}
+use Rattle.world_model.proofs.Learned.{LearnsShown, LearnsShown.sees, LearnsShown.agrees, LearnsShown.differs, LearnsShown.only, LearnsShown.hides}
 use Rattle.world_model.proofs.Lists.{last_has}
 use Rattle.world_model.specs.Invariant.{Names, InSightAt, InvariantAt, NotedAt}
 use Rattle.world_model.proofs.Quiet.{QuietAmong, row_counted, few_entries}
@@ -157,6 +157,7 @@ module _ {keeps : Keeps} {ours : Names} (w : World) (room : HasRoom w) (q : Soun
     found_goes s tags (only tag o) =
         let sight : Sight = record { id = s.id; revision = no_revision; tag = tag } in
         current (differing known sight).known sight (sym tags ∙ o.tagged) refl
+    found_goes s tags (hides u learns) = let none : None ≡ Some (version_tag (suc (length e.earlier))) = sym u.untagged ∙ tags in absurd (cc)
 
   found : known.seen ≡ Unknown → asking w.book name ≡ Some (Send (search_for known.wanted))
       → Finds w.entries name (search_for known.wanted) (answer_to w (search_for known.wanted)) → Advance keeps w name known
@@ -202,6 +203,7 @@ module _ {keeps : Keeps} {ours : Names} (w : World) (room : HasRoom w) (q : Soun
         let revisions : Some no_revision ≡ Some (row_revision known.wanted) = sym o.revision ∙ ap content_revision same ∙ revised in
         let none : no_revision ≡ row_revision known.wanted = cc in
         absurd (irreflexive no_revision (subst (λ (r : RevisionValue). no_revision ≺ r) (sym none) (none_before (row_revision known.wanted) (lawful_revision known.wanted law))))
+    image_ends s has same (hides u learns) = image_ends (shown_under no_version s) has same learns
 
     made : HasImage w.book known content → known.seen ≡ Absent → asking w.book name ≡ Some (Send (Create content)) → Creates w.entries content (answer_to w (Create content)) → Advance keeps w name known
     made has absent asks (creates s same says) =

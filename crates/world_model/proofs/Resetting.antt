@@ -1,11 +1,10 @@
 -- Acts and resets from any start: what is durable, what answers show, and what counts as confirmed.
-use Rattle.std.proofs.Common.{◌≡◌, ◌≢◌, ℕ, zero, suc, Bool, true, false, cond, List, [], ◌∷◌, ◌++◌, length, map, Option, Some, None, Result, Ok, Err, ◌⊎◌, inl, inr, refl, ap, sym, ◌∙◌, subst}
+use Rattle.std.proofs.Common.{◌≡◌, ◌≢◌, ℕ, zero, suc, Bool, true, false, cond, List, [], ◌∷◌, length, Option, Some, None, Result, Ok, Err, ◌⊎◌, inl, inr, refl, ap, sym, ◌∙◌, subst}
 use Rattle.std.proofs.lemmas.Bool.{cases_Bool}
-use Rattle.std.specs.List.{AllByRecursion, slice_get}
+use Rattle.std.specs.List.{slice_get}
 use Rattle.std.specs.Option.{option_map}
 use Rattle.scim_key.proofs.RecordLaws.{same as same_names}
 use Rattle.scim_key.proofs.RevisionLaws.{none_first, reflexive_up_to, same as same_revisions, transitive_up_to}
-use Rattle.scim_key.specs.Identifiers.{id_text}
 use Rattle.scim_key.specs.Revisions.{RevisionValue, no_revision, same_revision, later, ◌≼◌}
 use Rattle.scim_key.specs.declared.records.RecordName.{RecordName}
 use Rattle.scim_resource.specs.Contents.{content_name}
@@ -19,7 +18,7 @@ use Rattle.source_csv.specs.Records.{row_name, row_revision}
 use Rattle.source_csv.specs.declared.rows.Row.{Row}
 use Rattle.connector_core.specs.History.{same_name}
 use Rattle.connector_core.specs.Asking.{asking}
-use Rattle.connector_core.specs.Book.{Book, put, wanting, undoubted, doubting, wanted_row}
+use Rattle.connector_core.specs.Book.{Book, put, wanting, undoubted, doubting}
 use Rattle.connector_core.specs.Learning.{Finding, Shows, Sight, absent, nothing_new, none_sighted, forgetting, is_absent, is_under, or_no_revision, sighted, shown_revision, Lesson, Learning, learn, after_learning}
 use Rattle.connector_core.specs.declared.accepting.Verdict.{Verdict}
 use Rattle.connector_core.specs.declared.accepting.Verdict.TheVariants as verdicts
@@ -29,18 +28,18 @@ use Rattle.connector_core.specs.declared.changing.ChangeFault.{ChangeFault}
 use Rattle.connector_core.specs.declared.keeps.Keeps.TheVariants.{Revisions}
 use Rattle.connector_core.specs.declared.knowledge.Known.{Known}
 use Rattle.connector_core.specs.declared.learning.LearnFault.{LearnFault}
-use Rattle.world_model.specs.Invariant.{Names, Follows, ShowsTruly}
-use Rattle.world_model.specs.Others.{Act, Ours, Theirs, acts, IsApart}
-use Rattle.world_model.specs.Resetting.{unlearnt, opened_after, reset_book, Happening, Does, Forgets, undergoes, run_through, StaysApart, StayApart, WasReset, HoldsConfirmed, CountsTruly}
-use Rattle.world_model.specs.Safe.{IsAt, Has, IsEntryOf, id_in}
+use Rattle.world_model.specs.Invariant.{Names, ShowsTruly}
+use Rattle.world_model.specs.Others.{Ours, Theirs, acts}
+use Rattle.world_model.specs.Resetting.{unlearnt, opened_after, Happening, Does, Forgets, undergoes, run_through, StaysApart, StayApart, WasReset, HoldsConfirmed, CountsTruly}
+use Rattle.world_model.specs.Safe.{IsAt}
 use Rattle.world_model.specs.World.{World, Message, Asked, Answered, Event, Changes, Sends, Delivers, Cuts, Restarts_provider, Restarts_connector, Doubts, changes, sends, arrives, delivers, message_at, happens, judged}
 use Rattle.world_model.proofs.Comparing.{wanted_named, wanted_revised}
 use Rattle.world_model.proofs.Current.{answers_show_current}
 use Rattle.world_model.proofs.Durable.{IsTrue, Durable, act_durable, its_name}
-use Rattle.world_model.proofs.Faring.{IsStillAt, Fares, FaresOn, fares_further, fares_same, act_fares}
+use Rattle.world_model.proofs.Faring.{IsStillAt, FaresOn, fares_further, fares_same, act_fares}
 use Rattle.world_model.proofs.Growing.{id_at}
 use Rattle.world_model.proofs.Invariant.{message_there}
-use Rattle.world_model.proofs.Learned.{LearnsShown, LearnsShown.sees, LearnsShown.agrees, LearnsShown.differs, LearnsShown.only, Learns, Learns.shows, Learns.misses, Learns.is_taken, Learns.is_stale, learnt_by, never_only, shows_first}
+use Rattle.world_model.proofs.Learned.{LearnsShown, LearnsShown.sees, LearnsShown.agrees, LearnsShown.differs, LearnsShown.only, LearnsShown.hides, Learns, Learns.shows, Learns.misses, Learns.is_taken, Learns.is_stale, learnt_by, never_hidden, never_only, shows_first}
 use Rattle.world_model.proofs.Making.{put_one}
 use Rattle.world_model.proofs.Noting.{forgetting_id, none_sighted_id}
 use Rattle.world_model.proofs.Order.{later_within}
@@ -237,6 +236,7 @@ module _ (ours : Names) (es : List Entry) (whole : IsWholeTable es) (book : Book
         (ap or_no_revision (wanted_revised book known s.content wanted))
     shown_counts (differs sight d) some = as_before es name known _ refl refl was some
     shown_counts (only tag o) some = never_only o
+    shown_counts (hides u learns) some = never_hidden u
 
   lesson_counts : {said : Finding} {l : Lesson} → ((s : ShownRecord) → said ≡ Shows s → IsFact es s × (ours (content_name s.content) ≡ true → IsBelow ours es s)) → Learns Revisions book name known said l
       → l.known.confirmed ≢ no_revision → HoldsConfirmed es name l.known

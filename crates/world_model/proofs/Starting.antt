@@ -1,5 +1,5 @@
 -- The promise from any start, and from the empty one, through acts and resets.
-use Rattle.std.proofs.Common.{◌≡◌, ◌≢◌, ℕ, suc, Bool, true, false, List, [], ◌∷◌, ◌++◌, length, map, Option, Some, None, Result, Ok, Err, inl, inr, refl, ap, sym, ◌∙◌, subst, arith}
+use Rattle.std.proofs.Common.{◌≡◌, ◌≢◌, ℕ, suc, Bool, true, false, List, [], ◌∷◌, ◌++◌, length, Option, Some, None, Result, Ok, Err, inl, inr, refl, ap, sym, ◌∙◌, subst, arith}
 use Rattle.std.specs.List.{AllByRecursion}
 use Rattle.std.specs.Option.{option_map}
 use Rattle.scim_key.proofs.RevisionLaws.{none_first}
@@ -15,7 +15,7 @@ use Rattle.provider_core.proofs.TableLaws.{at_push, held_at}
 use Rattle.source_csv.specs.Records.{row_name, row_revision}
 use Rattle.source_csv.specs.declared.rows.Row.{Row}
 use Rattle.connector_core.specs.Book.{undoubted}
-use Rattle.connector_core.specs.History.{History, rows_of}
+use Rattle.connector_core.specs.History.{rows_of}
 use Rattle.connector_core.specs.Asking.{asking}
 use Rattle.connector_core.specs.Learning.{content_revision, or_no_revision, shown_revision}
 use Rattle.connector_core.specs.declared.accepting.Verdict.{Verdict}
@@ -26,7 +26,7 @@ use Rattle.connector_core.specs.declared.changing.ChangeFault.{ChangeFault}
 use Rattle.connector_core.specs.declared.knowledge.Known.{Known}
 use Rattle.world_model.specs.Healing.{IsInOrder, IsStart}
 use Rattle.world_model.specs.Invariant.{Names, all_names, AllOurs}
-use Rattle.world_model.specs.Others.{Act, Ours, Theirs, acts, IsApart, OfOurs, Holds, HeadlineAmong}
+use Rattle.world_model.specs.Others.{Ours, Theirs, acts, OfOurs, Holds, HeadlineAmong}
 use Rattle.world_model.specs.Resetting.{unlearnt, opened_after, Happening, Does, Forgets, undergoes, run_through, StaysApart, StayApart, IsLawfulHappening, IsOwn, HeadlineFrom, HeadlineFromAnyStart, HeadlineThroughResets, HeadlineAlone, PromisedThroughResets, HealsAfterResets, WithoutResets}
 use Rattle.world_model.specs.Safe.{IsAt, Has, rows, HasReached, IsImage, IsLater}
 use Rattle.world_model.specs.World.{World, Message, Asked, Answered, Event, Changes, Sends, Delivers, Cuts, Restarts_provider, Restarts_connector, Doubts, changes, sends, delivers, message_at, happens, empty, judged}

@@ -29,9 +29,9 @@ use Rattle.source_csv.specs.declared.rows.Row.{Row}
 use Rattle.source_csv.specs.declared.rows.Row.TheVariants.{User, Group}
 use Rattle.connector_core.specs.Asking.{asking, is_done, request_for, search_for, replacement}
 use Rattle.connector_core.specs.Book.{Book, put}
-use Rattle.connector_core.specs.Keeps.{carried, forgot, learn_at, lesson_at, only_seen, shown_with, standing_for}
+use Rattle.connector_core.specs.Keeps.{carried, forgot, learn_at, lesson_at, lesson_under, no_version, only_seen, shown_with, standing_for}
 use Rattle.connector_core.specs.declared.keeps.Keeps.TheVariants.{Versions}
-use Rattle.connector_core.specs.Learning.{Finding, Shows, Shows_none, Taken, Stale, Sight, Lesson, absent, after_learning, compared, differing, fault_unless, finding, fit, fits_id, forgetting, is_absent, is_wanted, none_sighted, noted, or_fault, shown_lesson, sighted, subject}
+use Rattle.connector_core.specs.Learning.{Finding, Shows, Shows_none, Taken, Stale, Sight, Lesson, absent, after_learning, compared, differing, fault_unless, finding, fit, fits_id, forgetting, is_absent, is_wanted, none_sighted, noted, or_fault, sighted, subject}
 use Rattle.connector_core.specs.declared.asking.Ask.{Ask}
 use Rattle.connector_core.specs.declared.asking.Ask.TheVariants.{Send}
 use Rattle.connector_core.specs.declared.knowledge.Known.{Known}
@@ -46,7 +46,7 @@ use Rattle.world_model.specs.Safe.{IsAt, Has}
 use Rattle.world_model.specs.Settled.{Wants}
 use Rattle.world_model.specs.Room.{HasRoom}
 use Rattle.world_model.specs.Invariant.{all_names}
-use Rattle.world_model.specs.Unversioned.{IsInOrder, KeepsOrder, delivers_without_versions, exchange_without_versions, happens_without_versions, replies_without_versions, stand_in, taken_for}
+use Rattle.world_model.specs.Unversioned.{IsInOrder, KeepsOrder, delivers_without_versions, exchange_without_versions, happens_without_versions, replies_without_versions, taken_for}
 use Rattle.world_model.proofs.Asked.{done_if, later_top, HasImage, image_named, image_revised, asked}
 use Rattle.world_model.proofs.Comparing.{image_wanted}
 use Rattle.world_model.proofs.Finding.{Finds, Finds.finds, Finds.lacks, search_finds, search_keeps, Creates, Creates.creates, Creates.meets, create_answers, Replaces, Replaces.renews, Replaces.misses, replace_answers}
@@ -73,10 +73,10 @@ exchanged w request = record (replied w request) { book = after_learning w.book 
 
 -- what the connector takes a resource for
 abbrev taken : ShownRecord → ShownRecord
-taken s = shown_under stand_in (shown_with None s)
+taken s = shown_under no_version (shown_with None s)
 
 abbrev taken_said : Finding → Finding
-taken_said said = said_with (shown_under stand_in) (said_with (shown_with None) said)
+taken_said said = said_with (shown_under no_version) (said_with (shown_with None) said)
 
 -- after an exchange in which this request was sent, this is known of the record
 pub record LedTo (w : World) (name : RecordName) (request : Request) (now : Known) : Type 0 where
@@ -125,7 +125,7 @@ module _ (w : World) (name : RecordName) (request : Request) (asks : asking w.bo
 
   module _ (known : Known) (said : Finding) (about : subject request ≡ Some name) (in_book : w.book name ≡ Some known) (told : finding request (reply_to w request) ≡ Ok said) where
     told_taken : finding request (taken_for (reply_to w request)) ≡ Ok (taken_said said)
-    told_taken = finding_with (shown_under stand_in) request (forgot (reply_to w request)) (said_with (shown_with None) said) (finding_with (shown_with None) request (reply_to w request) said told)
+    told_taken = finding_with (shown_under no_version) request (forgot (reply_to w request)) (said_with (shown_with None) said) (finding_with (shown_with None) request (reply_to w request) said told)
 
     led_to : (l : Lesson) → lesson_at Versions w.book name known (carried request) (taken_said said) ≡ Ok l → LedTo w name request l.known
     led_to l is = record {
@@ -141,9 +141,9 @@ module _ (w : World) (name : RecordName) (request : Request) (asks : asking w.bo
 
 -- a resource that is only seen
 only_is : (name : RecordName) (known : Known) (s : ShownRecord) → name ≡ content_name s.content
-    → only_seen name known (taken s) ≡ Ok (differing known (record { id = s.id; revision = no_revision; tag = stand_in }))
+    → only_seen name known (taken s) ≡ Ok (differing known (record { id = s.id; revision = no_revision; tag = no_version }))
 only_is name known s named =
-    let last : Bool → Result Lesson LearnFault = λ b. Ok (differing known (record { id = s.id; revision = no_revision; tag = stand_in })) in
+    let last : Bool → Result Lesson LearnFault = λ b. Ok (differing known (record { id = s.id; revision = no_revision; tag = no_version })) in
     ap (λ (b : Bool). fault_unless Unfit b >>= last) (same_if_eq name (content_name (content_with None s.content)) (named ∙ sym (name_with None s.content)))
 
 fits_known : (known : Option (List ℕ)) (id : List ℕ) → ((k : List ℕ) → known ≡ Some k → k ≡ id) → fits_id known id ≡ true
@@ -161,7 +161,7 @@ module _ (book : Book) (name : RecordName) (known : Known) (c : Content) (s : Sh
   as_asked = standing_for c (taken s)
 
   abbrev confirms : Sight
-  confirms = record { id = s.id; revision = row_revision known.wanted; tag = stand_in }
+  confirms = record { id = s.id; revision = row_revision known.wanted; tag = no_version }
 
   fit_is : fit name known as_asked ≡ Ok confirms
   fit_is =
@@ -177,7 +177,7 @@ module _ (book : Book) (name : RecordName) (known : Known) (c : Content) (s : Sh
   asked_is : (o : Option Content) → o ≡ Some c → lesson_at Versions book name known o (Shows (taken s)) ≡ Ok (sighted known confirms)
   asked_is o carries =
       ap (λ (x : Option Content). lesson_at Versions book name known x (Shows (taken s))) carries
-      ∙ ap (λ (b : Bool). fault_unless Unfit b >>= λ _. shown_lesson book name known as_asked) (says_itself name c s named written)
+      ∙ ap (λ (b : Bool). fault_unless Unfit b >>= λ _. lesson_under (Some no_version) book name known as_asked) (says_itself name c s named written)
       ∙ confirmed_by known.is_doubted
 
 -- what shows a resource doesn't depend on conditions
@@ -244,7 +244,7 @@ module _ (w : World) (i : InvariantWithoutVersions w) (room : HasRoom w) (q : So
       let about : subject request ≡ Some name = search_subject known.wanted (its_law there q name known_there there_known) ∙ ap Some row_named in
       let shows : name ≡ content_name s.content = sym (i.inv.kept.whole.named place (length e.earlier) e e.held at (held_at e) ∙ named) in
       let said : finding request (reply_to w request) ≡ Ok (Shows s) = ap (λ (r : Request). finding request (step w.entries r).answer) (search_alike known.wanted) ∙ told in
-      let l = differing known (record { id = s.id; revision = no_revision; tag = stand_in }) in
+      let l = differing known (record { id = s.id; revision = no_revision; tag = no_version }) in
       let tag = version_tag (suc (length e.earlier)) in
       let near : Near w.entries name (retagged tag l.known) = at_current place e s.id no_revision at named refl in
       record {
@@ -282,7 +282,7 @@ module _ (w : World) (i : InvariantWithoutVersions w) (room : HasRoom w) (q : So
     wrote request s asks carries about same told =
         let at = shows_first request (reply_to w request) s told in
         let its_id = shows_id request s at (ap content_name same ∙ of_record) in
-        let l = sighted known (record { id = s.id; revision = row_revision known.wanted; tag = stand_in }) in
+        let l = sighted known (record { id = s.id; revision = row_revision known.wanted; tag = no_version }) in
         record {
           now = l.known;
           tag = old;

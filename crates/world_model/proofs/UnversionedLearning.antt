@@ -4,7 +4,6 @@ use Rattle.std.proofs.Common.{◌≡◌, ℕ, zero, suc, Bool, true, false, cond
 use Rattle.std.specs.Option.{option_map, option_and_then}
 use Rattle.scim_key.specs.Revisions.{no_revision}
 use Rattle.scim_key.specs.declared.records.RecordName.{RecordName}
-use Rattle.scim_version.specs.Tags.{version_tag}
 use Rattle.scim_resource.specs.Rows.{ShownRecord, shown_under}
 use Rattle.scim_message.specs.Messages.{unconditional}
 use Rattle.scim_message.specs.declared.messages.Request.{Request}
@@ -14,9 +13,9 @@ use Rattle.provider_core.specs.Stories.{Entry, AllGoOn, step}
 use Rattle.provider_core.specs.Tables.{IsWholeTable, shown_in}
 use Rattle.provider_core.proofs.TableLaws.{at_push}
 use Rattle.source_csv.specs.declared.rows.Row.{Row}
-use Rattle.connector_core.specs.Book.{Book, known_id, wanted_row, put, wanting, undoubted, doubting, doubted, reopened}
+use Rattle.connector_core.specs.Book.{Book, forgotten, known_id, wanted_row, put, wanting, undoubted, doubting, doubted, reopened}
 use Rattle.connector_core.specs.History.{same_name}
-use Rattle.connector_core.specs.Keeps.{filling, forgot, heard}
+use Rattle.connector_core.specs.Keeps.{filling, forgot, heard, no_version}
 use Rattle.connector_core.specs.declared.keeps.Keeps.TheVariants.{Versions}
 use Rattle.connector_core.specs.Learning.{Finding, Shows, Sight, Lesson, absent, nothing_new, agreeing, differing, forgetting, is_absent, is_image, is_under, none_sighted, sighted}
 use Rattle.mapping.specs.Images.{imaged}
@@ -26,10 +25,10 @@ use Rattle.connector_core.specs.declared.knowledge.Seen.TheVariants.{Unknown, Ab
 use Rattle.world_model.specs.World.{Message, Answered}
 use Rattle.world_model.specs.Safe.{IsAt}
 use Rattle.world_model.specs.Invariant.{NotedAt, StandsFor}
-use Rattle.world_model.specs.Unversioned.{stand_in, taken_for}
+use Rattle.world_model.specs.Unversioned.{taken_for}
 use Rattle.world_model.proofs.Hearing.{at_with, shown_in_with, forgot_truly}
-use Rattle.world_model.proofs.Learned.{LearnsShown, LearnsShown.sees, LearnsShown.agrees, LearnsShown.differs, LearnsShown.only, Learns, Learns.shows, Learns.misses, Learns.is_taken, Learns.is_stale}
-use Rattle.world_model.proofs.Noting.{Compares, shown_noted, none_sighted_noted, forgetting_noted, shown_keeps_id, none_sighted_id, forgetting_id}
+use Rattle.world_model.proofs.Learned.{LearnsShown, LearnsShown.sees, LearnsShown.agrees, LearnsShown.differs, LearnsShown.only, LearnsShown.hides, Learns, Learns.shows, Learns.misses, Learns.is_taken, Learns.is_stale}
+use Rattle.world_model.proofs.Noting.{Compares, its_tag, shown_noted, none_sighted_noted, forgetting_noted, shown_keeps_id, none_sighted_id, forgetting_id}
 use Rattle.world_model.proofs.Telling.{stands_grow}
 
 -- ---- under another tag
@@ -150,28 +149,18 @@ filling_under (Replace id c m n) tag other s = refl
 under_its_own : (s : ShownRecord) (tag : List ℕ) → s.version ≡ Some tag → shown_under tag s ≡ s
 under_its_own s tag is = λ i. record s { version = sym is i }
 
--- what stands for a version has its tag
-its_tag : (es : List Entry) (s : ShownRecord) → StandsFor es s → (tag : List ℕ) × (s.version ≡ Some tag)
-its_tag es s st = (
-  version_tag (suc st.fact.turn),
-  elim st.stands [
-    | inl same ↦ ap (λ (x : ShownRecord). x.version) same ∙ st.fact.version
-    | inr same ↦ ap (λ (x : ShownRecord). x.version) same ∙ st.fact.version
-  ],
-)
-
 pub taken_truly : (es : List Entry) (request : Request) → RepliesTruly (step es (unconditional request)).entries request (taken_for (step es (unconditional request)).answer)
 taken_truly es request i s at =
     let after = step es (unconditional request) in
     let asked = unconditional request in
     let (y, at_y, same_y) = at_with (filling request) (taken_for after.answer) i s at in
-    let (x, at_x, same_x) = at_with (shown_under stand_in) (forgot after.answer) i y at_y in
+    let (x, at_x, same_x) = at_with (shown_under no_version) (forgot after.answer) i y at_y in
     let there : IsAt (shown_in (heard Versions asked (forgot after.answer))) i (filling asked x) =
     subst (λ (xs : List ShownRecord). IsAt xs i (filling asked x)) (sym (shown_in_with (filling asked) (forgot after.answer))) (at_mapped (filling asked) (shown_in (forgot after.answer)) i x at_x) in
     let stands = forgot_truly es asked i (filling asked x) there in
     let (tag, tagged) = its_tag after.entries (filling asked x) stands in
     let same : shown_under tag s ≡ filling asked x =
-    ap (shown_under tag) (sym same_y ∙ ap (filling request) (sym same_x)) ∙ filling_under request tag stand_in x ∙ ap (shown_under tag) (sym (same_filling request x))
+    ap (shown_under tag) (sym same_y ∙ ap (filling request) (sym same_x)) ∙ filling_under request tag no_version x ∙ ap (shown_under tag) (sym (same_filling request x))
     ∙ under_its_own (filling asked x) tag tagged in
     (tag, subst (StandsFor after.entries) (sym same) stands)
 
@@ -195,41 +184,51 @@ forgetting_retagged : (tag : List ℕ) (concerned : Bool) (known : Known) → (f
 forgetting_retagged tag true known = refl
 forgetting_retagged tag false known = refl
 
+-- what isn't in sight any more is true as well
+hidden_taught : (es : List Entry) (name : RecordName) (known now : Known) → IsTaught es name known now → IsTaught es name known (forgotten now)
+hidden_taught es name known now t = record {
+  tag = t.tag;
+  noted = subst (NotedAt Versions es name) (forgetting_retagged t.tag true now) (forgetting_noted es name true (retagged t.tag now) t.noted);
+  keeps = t.keeps;
+}
+
 module _ (es : List Entry) (tags : Tagging) (book : Book) (name : RecordName) (known : Known) (whole : IsWholeTable es) (old : List ℕ) (n : NotedAt Versions es name (retagged old known))
     (compares : Compares es (retagged_book tags book) name (retagged old known)) where
   -- what is learnt from a resource is learnt from it under another tag
-  module _ (s : ShownRecord) (tag : List ℕ) (stands : StandsFor es (shown_under tag s)) where
-    abbrev LearnsThere : Lesson → Type 0
-    LearnsThere l = LearnsShown Versions (retagged_book tags book) name (retagged old known) (shown_under tag s) l
+  module _ (tag : List ℕ) where
+    abbrev LearnsThere : ShownRecord → Lesson → Type 0
+    LearnsThere s l = LearnsShown Versions (retagged_book tags book) name (retagged old known) (shown_under tag s) l
 
-    taught : (now : Known) {l : Lesson} → LearnsThere l → l.known ≡ retagged tag now → IsTaught es name known now
-    taught now {l} learns same =
+    taught : (s : ShownRecord) → StandsFor es (shown_under tag s) → (now : Known) {l : Lesson} → LearnsThere s l → l.known ≡ retagged tag now → IsTaught es name known now
+    taught s stands now {l} learns same =
         let noted = shown_noted es (retagged_book tags book) name (retagged old known) whole compares Versions (shown_under tag s) n stands learns in
         record {
           tag = tag;
           noted = subst (NotedAt Versions es name) same noted;
-          keeps = λ id has. ap (λ (k : Known). k.id) (sym same) ∙ shown_keeps_id es (retagged_book tags book) name (retagged old known) n id has (shown_under tag s) noted learns;
+          keeps = λ id has. ap (λ (k : Known). k.id) (sym same) ∙ shown_keeps_id es (retagged_book tags book) name (retagged old known) n id has (shown_under tag s) noted.id learns;
         }
 
-    shown_taught : {l : Lesson} → LearnsShown Versions book name known s l → IsTaught es name known l.known
-    shown_taught (sees sight fits) =
+    shown_taught : (s : ShownRecord) → StandsFor es (shown_under tag s) → {l : Lesson} → LearnsShown Versions book name known s l → IsTaught es name known l.known
+    shown_taught s stands (sees sight fits) =
         let there : Sight = record sight { tag = tag } in
-        taught (sighted known sight).known
+        taught s stands (sighted known sight).known
         (sees there (record { named = fits.named; its_id = fits.its_id; revision = fits.revision; within = fits.within; tag = refl; id = fits.id })) refl
-    shown_taught (agrees other wanted tagged) =
+    shown_taught s stands (agrees other wanted tagged) =
         let same : is_image (imaged (known_id (retagged_book tags book)) known.wanted) s.content ≡ true =
         ap (λ (ids : RecordName → Option (List ℕ)). is_image (imaged ids known.wanted) s.content) (same_ids tags book) ∙ wanted in
-        taught (agreeing known s.id other).known (agrees tag same refl) refl
-    shown_taught (differs sight d) =
+        taught s stands (agreeing known s.id other).known (agrees tag same refl) refl
+    shown_taught s stands (differs sight d) =
         let there : Sight = record sight { tag = tag } in
         let same : is_image (imaged (known_id (retagged_book tags book)) known.wanted) s.content ≡ false =
         ap (λ (ids : RecordName → Option (List ℕ)). is_image (imaged ids known.wanted) s.content) (same_ids tags book) ∙ d.other in
-        taught (differing known sight).known
+        taught s stands (differing known sight).known
         (differs there (record { doubted = d.doubted; other = same; named = d.named; revision = d.revision; within = d.within; tag = refl; id = d.id })) refl
-    shown_taught (only other o) = taught (differing known (record { id = s.id; revision = no_revision; tag = other })).known (only tag (record { kind = o.kind; named = o.named; revision = o.revision; tagged = refl })) refl
+    shown_taught s stands (only other o) =
+        taught s stands (differing known (record { id = s.id; revision = no_revision; tag = other })).known (only tag (record { kind = o.kind; named = o.named; revision = o.revision; tagged = refl })) refl
+    shown_taught s stands (hides u learns) = hidden_taught es name known _ (shown_taught (shown_under no_version s) stands learns)
 
   pub lesson_taught : {said : Finding} {l : Lesson} → ((s : ShownRecord) → said ≡ Shows s → StandsUnder es s) → Learns Versions book name known said l → IsTaught es name known l.known
-  lesson_taught shown (shows s l learns) = let stands = shown s refl in shown_taught s stands.0 stands.1 learns
+  lesson_taught shown (shows s l learns) = let stands = shown s refl in shown_taught stands.0 s stands.1 learns
   lesson_taught shown misses = record {
     tag = old;
     noted = subst (NotedAt Versions es name) (none_sighted_retagged old known.id known) (none_sighted_noted es name known.id (retagged old known) n);

@@ -10,7 +10,7 @@ use Rattle.connector_core.specs.Book.{Book, undoubted}
 use Rattle.connector_core.specs.Learning.{shown_revision}
 use Rattle.connector_core.specs.declared.knowledge.Known.{Known}
 use Rattle.connector_core.specs.declared.knowledge.Seen.TheVariants.{Unknown}
-use Rattle.world_model.specs.World.{World, Event, empty, names}
+use Rattle.world_model.specs.World.{World, empty, names}
 use Rattle.world_model.specs.Safe.{IsAt, Has, IsEntryOf, IsImage, Headline, id_in}
 use Rattle.world_model.specs.Invariant.{Names}
 use Rattle.world_model.specs.Others.{Act, Ours, Theirs, acts, run_among, IsApart, HeadlineAmong}

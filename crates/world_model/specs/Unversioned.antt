@@ -7,7 +7,6 @@ use Rattle.std.specs.List.{AllByRecursion}
 use Rattle.scim_key.specs.Revisions.{no_revision, ◌≼◌}
 use Rattle.scim_key.specs.declared.records.Kind.TheVariants as kinds
 use Rattle.scim_key.specs.declared.records.RecordName.{RecordName}
-use Rattle.scim_version.specs.Tags.{version_tag}
 use Rattle.scim_resource.specs.Contents.{content_name}
 use Rattle.scim_resource.specs.Rows.{last_version}
 use Rattle.scim_resource.specs.declared.contents.Content.{Content}
@@ -20,7 +19,7 @@ use Rattle.source_csv.specs.declared.rows.Row.{Row}
 use Rattle.connector_core.specs.Book.{wanted_row}
 use Rattle.connector_core.specs.Changing.{judging_by_source}
 use Rattle.connector_core.specs.History.{rows_of, last_row, Rises}
-use Rattle.connector_core.specs.Keeps.{forgot}
+use Rattle.connector_core.specs.Keeps.{forgot, no_version}
 use Rattle.connector_core.specs.declared.keeps.Keeps.TheVariants.{Versions}
 use Rattle.connector_core.specs.declared.knowledge.Known.{Known}
 use Rattle.connector_core.specs.declared.knowledge.Seen.{Seen}
@@ -35,13 +34,9 @@ use Rattle.world_model.specs.Untroubled.{IsLawful, request_content}
 
 -- ---- events
 
--- the tag under which the connector takes each resource of an answer, since none is shown
-abbrev pub stand_in : List ℕ
-stand_in = version_tag 0
-
--- what the connector takes an answer for: no resource has a revision, and each is under the same tag
+-- what the connector takes an answer for: no resource has a revision, and each is under the tag that stands in for one
 abbrev pub taken_for : Answer → Answer
-taken_for answer = answer_under stand_in (forgot answer)
+taken_for answer = answer_under no_version (forgot answer)
 
 -- the provider has the table after the request, and its reply is sent
 abbrev pub replies_without_versions : World → Request → Step → World
