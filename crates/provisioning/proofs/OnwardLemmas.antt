@@ -10,12 +10,13 @@ use Rattle.scim_message.specs.declared.messages.Answer.{Answer}
 use Rattle.scim_message.specs.declared.messages.Request.{Request}
 use Rattle.journal_core.specs.declared.journals.Journal.{Ghosts}
 use Rattle.scim_resource.specs.Contents.{content_name}
-use Rattle.scim_resource.specs.Rows.{ShownRecord}
+use Rattle.scim_resource.specs.Rows.{ShownRecord, shown_under}
 use Rattle.scim_resource.specs.declared.contents.Content.{Content}
 use Rattle.source_csv.specs.Records.{row_revision}
 use Rattle.connector_core.specs.History.{same_name}
 use Rattle.connector_core.specs.Book.{Book, confirmed_if, confirmed_of, put, wanted_row}
-use Rattle.connector_core.specs.Keeps.{carried, lesson_at, learn_at, says, standing_for, unshown_lesson}
+use Rattle.connector_core.proofs.Standing.{under_no_tag}
+use Rattle.connector_core.specs.Keeps.{carried, lesson_at, lesson_under, learn_at, no_version, says, standing_for, unseen, unshown_lesson}
 use Rattle.connector_core.specs.Learning.{Finding, Shows, Shows_none, Taken, Stale, Learning, Lesson, Sight, absent, after_learning, agreeing, compared, differing, fault_unless, finding, fit, fit_differing, forgetting, is_absent, is_under, is_wanted, lesson, none_sighted, noted, nothing_new, or_fault, shown_lesson, sighted, subject}
 use Rattle.connector_core.specs.Maps.{BookMap, book_of}
 use Rattle.connector_core.specs.State.{State}
@@ -92,6 +93,12 @@ lesson_goes book name known (Stale if_match) l is =
     let same : forgetting (is_under if_match known.seen) known ≡ l = cc in
     moved known (forgetting (is_under if_match known.seen) known) l same (forgetting_goes (is_under if_match known.seen) known)
 
+under_goes : (tag : Option (List ℕ)) (book : Book) (name : RecordName) (known : Known) (s : ShownRecord) (l : Lesson) → lesson_under tag book name known s ≡ Ok l → Goes known l.known
+under_goes (Some tag) book name known s l is = shown_goes known.is_doubted book name known s l is
+under_goes None book name known s l is =
+    let u = under_no_tag book name known s l is in
+    moved known (unseen u.tagged) l u.is (shown_goes known.is_doubted book name known (shown_under no_version s) u.tagged u.learns)
+
 unshown_goes : (book : Book) (name : RecordName) (known : Known) (content : Option Content) (s : ShownRecord) (l : Lesson) → unshown_lesson book name known content s ≡ Ok l → Goes known l.known
 unshown_goes book name known None s l is =
     let sight : List ℕ → Sight = λ tag. record { id = s.id; revision = no_revision; tag = tag } in
@@ -101,8 +108,8 @@ unshown_goes book name known None s l is =
     moved known (differing known (sight tag)) l same (refl, reflexive_up_to known.confirmed)
 unshown_goes book name known (Some content) s l is =
     let stands = standing_for content s in
-    let (said, fits, rest) = through (fault_unless Unfit (says name content s)) (λ u. shown_lesson book name known stands) l is in
-    shown_goes known.is_doubted book name known stands l rest
+    let (said, fits, rest) = through (fault_unless Unfit (says name content s)) (λ u. lesson_under s.version book name known stands) l is in
+    under_goes s.version book name known stands l rest
 
 lesson_at_goes : (keeps : Keeps) (book : Book) (name : RecordName) (known : Known) (content : Option Content) (said : Finding) (l : Lesson) → lesson_at keeps book name known content said ≡ Ok l → Goes known l.known
 lesson_at_goes Revisions book name known content said l is = lesson_goes book name known said l is

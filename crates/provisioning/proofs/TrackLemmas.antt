@@ -15,7 +15,7 @@ use Rattle.connector_core.specs.declared.asking.AskFault.TheVariants as faults
 use Rattle.provisioning.specs.Exchanges.{IsTaken}
 use Rattle.provisioning.specs.Openings.{Opening}
 use Rattle.provisioning.specs.Records.{Stands, most_exchanges}
-use Rattle.provisioning.specs.Services.{Service, is_held_back}
+use Rattle.provisioning.specs.Services.{Service, is_held_back, kept_for}
 use Rattle.provisioning.specs.Tracks.{Advances, ComesOfOpening, GoesOn, IsAtEnd, IsHeard, IsLearnt, IsReadFrom, IsSetOut, StandsAt, faulted, may_wait, put_off}
 use Rattle.provisioning.specs.declared.faults.RecordFault.{RecordFault}
 use Rattle.provisioning.specs.declared.faults.RunFault.{RunFault}
@@ -51,10 +51,10 @@ went_on {I} {O} contents service a book request (Err error) result left free ask
     subst (λ (r : Result (Track I O) RunFault). GoesOn contents service a (Err error ∷ []) book r) (sym is) (left, inl (error, refl, refl))
 
 pub learnt_by : {I O J : Type 0} (remaining : I → Option (List ℕ)) (g : Ghosts J) (service : Service) (f : Flight I O) (came : Result Answer ExchangeFault) (old new : State J) (result : Result (Option RecordFault) RunFault)
-    → IsHeard remaining f.request f.reader f.sent came → IsTaken g service f.request came old new result → IsLearnt remaining g service f old new result
+    → IsHeard remaining (kept_for service.keeps f.request) f.reader f.sent came → IsTaken g service f.request came old new result → IsLearnt remaining g service f old new result
 learnt_by remaining g service f came old new result heard taken = record {
   came = taken.came;
-  heard = subst (λ (said : Result Answer ExchangeFault). IsHeard remaining f.request f.reader f.sent said) (sym taken.answer_is) heard;
+  heard = subst (λ (said : Result Answer ExchangeFault). IsHeard remaining (kept_for service.keeps f.request) f.reader f.sent said) (sym taken.answer_is) heard;
   becomes = taken.becomes;
   result_is = taken.result_is;
 }

@@ -23,7 +23,7 @@ use Rattle.connector_core.specs.declared.learning.LearnFault.{LearnFault}
 use Rattle.connector_core.specs.declared.learning.Learnt.{Learnt}
 use Rattle.provisioning.specs.Faults.{open_fault, unanswered, unlearnt}
 use Rattle.provisioning.specs.Openings.{Opening}
-use Rattle.provisioning.specs.Services.{Service, taken_from, written_for}
+use Rattle.provisioning.specs.Services.{Service, kept_for, taken_from, written_for}
 use Rattle.provisioning.specs.declared.faults.RunFault.{RunFault}
 use Rattle.provisioning.specs.declared.faults.RunFault.TheVariants.{Memory}
 use Rattle.provisioning.specs.declared.faults.RecordFault.{RecordFault}
@@ -78,7 +78,7 @@ Becomes g service request (lost fault) old new = new ≡ old
 -- ---- on its stream
 
 -- The text of the request as it is written for the service, which spells it, was written to the writer, and the result
--- is what the bytes of the reader say, from the first on
+-- is what the bytes of the reader say to it, from the first on
 pub record IsAsked {I O : Type 0} (remaining : I → Option (List ℕ)) (contents : O → Option (List ℕ)) (service : Service)
     (request : Request) (reader : I) (writer : O) (came : Result Answer ExchangeFault) : Type 0 where
   pub left : Reading
@@ -86,8 +86,8 @@ pub record IsAsked {I O : Type 0} (remaining : I → Option (List ℕ)) (content
   pub sent : Sends (text_of service.base (written_for service request)) (fresh_writing (contents writer)) written
       came
   pub spelled : SpellsSent service.base (written_for service request) (fresh_writing (contents writer)) written
-  pub read : Reads request (fresh_reading (remaining reader)) left came
-  pub known : ExchangesKnown request (remaining reader) left.remaining came
+  pub read : Reads (kept_for service.keeps request) (fresh_reading (remaining reader)) left came
+  pub known : ExchangesKnown (kept_for service.keeps request) (remaining reader) left.remaining came
 
 pub record Exchange (I O : Type 0) : Type 0 where
   pub request : Request

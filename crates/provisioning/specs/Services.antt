@@ -1,9 +1,9 @@
 -- Where records are carried to.
 use Rattle.std.specs.Prelude.{ℕ, Bool, true, false, ◌==◌, ◌||◌, List, Option, Some, None}
-use Rattle.scim_version.specs.Tags.{version_tag}
 use Rattle.scim_message.specs.Messages.{answer_under, request_with, unconditional}
 use Rattle.scim_message.specs.declared.messages.Answer.{Answer}
 use Rattle.scim_message.specs.declared.messages.Request.{Request}
+use Rattle.connector_core.specs.Keeps.{no_version}
 use Rattle.connector_core.specs.declared.keeps.Keeps.{Keeps}
 use Rattle.connector_core.specs.declared.keeps.Keeps.TheVariants.{Revisions, Versions}
 use Rattle.provisioning.specs.declared.faults.RecordFault.{RecordFault}
@@ -45,10 +45,6 @@ abbrev pub written_for : Service → Request → Request
 written_for service request = kept_for service.keeps (conditioned service.is_versioned request)
 
 -- ---- answers
-
--- what stands in the place of each version, if there are none
-abbrev pub no_version : List ℕ
-no_version = version_tag 0
 
 -- The answer as it is taken from the service: if it has no versions, each resource is under the same one
 abbrev pub taken_from : (is_versioned : Bool) → Answer → Answer

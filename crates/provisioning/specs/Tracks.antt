@@ -19,7 +19,7 @@ use Rattle.provisioning.specs.Exchanges.{Becomes, Came, IsUnmade, answer_in, out
 use Rattle.provisioning.specs.Faults.{open_fault}
 use Rattle.provisioning.specs.Openings.{Opening}
 use Rattle.provisioning.specs.Records.{Rests, most_exchanges}
-use Rattle.provisioning.specs.Services.{Service, is_held_back, written_for}
+use Rattle.provisioning.specs.Services.{Service, is_held_back, kept_for, written_for}
 use Rattle.provisioning.specs.declared.faults.RecordFault.{RecordFault}
 use Rattle.provisioning.specs.declared.faults.RecordFault.TheVariants as faults
 use Rattle.provisioning.specs.declared.faults.RunFault.{RunFault}
@@ -144,12 +144,13 @@ abbrev pub IsHeard : {I : Type 0} → (I → Option (List ℕ)) → Request → 
 IsHeard remaining request reader (Ok sent) came = IsReadFrom remaining request reader came
 IsHeard remaining request reader (Err fault) came = came ≡ Err fault
 
--- The connector learns from what comes on the stream of the request
+-- The connector learns from what comes on the stream of the request, which is read as the answer to what the service keeps
+-- of it
 pub record IsLearnt {I O J : Type 0}
     (remaining : I → Option (List ℕ)) (g : Ghosts J) (service : Service) (f : Flight I O) (old new : State J)
     (result : Result (Option RecordFault) RunFault) : Type 0 where
   pub came : Came
-  pub heard : IsHeard remaining f.request f.reader f.sent (answer_in came)
+  pub heard : IsHeard remaining (kept_for service.keeps f.request) f.reader f.sent (answer_in came)
   pub becomes : Becomes g service f.request came old new
   pub result_is : result ≡ outcome came
 

@@ -6,7 +6,7 @@ ghost use Rattle.scim_client.specs.Exchanges.{SpellsSent, Starts};
 ghost use Rattle.scim_client.specs.Requests.{text_of};
 
 use crate::faults::RecordFault;
-use connector_core::Keeps;
+use connector_core::{Keeps, NO_VERSION};
 use http_text::Output;
 use scim_client::{ExchangeFault, ScimService};
 use scim_message::{Answer, Request};
@@ -14,9 +14,6 @@ use scim_version::Condition;
 use std::alloc::{AllocError, Global};
 use std::io::Write;
 use std::marker::Model;
-
-/// What stands in the place of each version of a service that has none. No counter of versions begins so low.
-const NO_VERSION: u64 = 0;
 
 /// What a provider keeps of what it is sent.
 #[derive(Clone, Copy)]

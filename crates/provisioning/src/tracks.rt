@@ -4,7 +4,8 @@ ghost use Rattle.connector_core.specs.Maps.{book_of};
 ghost use Rattle.provisioning.specs.Lists.{Adds};
 ghost use Rattle.provisioning.specs.Openings.{Opening, Opens};
 ghost use Rattle.provisioning.specs.Records.{most_exchanges};
-ghost use Rattle.provisioning.specs.Services.{is_held_back};
+ghost use Rattle.connector_core.specs.declared.keeps.Keeps.TheVariants.{Versions};
+ghost use Rattle.provisioning.specs.Services.{is_held_back, kept_for};
 ghost use Rattle.provisioning.specs.Tracks.{Advances, Closes, ComesOfOpening, GoesOn, IsAtEnd, IsHeard, IsLearnt, IsSetOut, StandsAt, Steps, counted, faulted, fresh, may_wait, put_off, says_busy};
 
 use crate::dialing::Dial;
@@ -13,7 +14,7 @@ use crate::faults::{RecordFault, RunFault, open_fault};
 use crate::recording::{Heard, Recording};
 use crate::records::{Standing, standing_after};
 use crate::services::{ServiceProvider, is_held_back, send_to};
-use connector_core::{Ask, AskFault, Connector, MOST_EXCHANGES};
+use connector_core::{Ask, AskFault, Connector, Keeps, MOST_EXCHANGES};
 use http_text::{Input, Output};
 use journal_core::Journal;
 use scim_client::{ExchangeFault, read_reply};
@@ -215,7 +216,7 @@ fn learn_from<J: Journal, D: Dial>(
         writer,
         sent,
     } = flight;
-    let (came, recording) = hear(alloc, &request, reader, sent);
+    let (request, came, recording) = hear_kept(alloc, service.keeps, request, reader, sent);
     let Recording { reader, heard } = recording;
     dial.end(reader, writer);
     let (came, taken) = take(alloc, service, connector, &request, came);
@@ -224,6 +225,44 @@ fn learn_from<J: Journal, D: Dial>(
         alloc, keeps, connector, dial, name, &request, &heard, &came, taken,
     );
     (taken, heard)
+}
+
+/// Reads the answer to what a service keeps of a request, if it was sent whole. It gives the request back as it was, and
+/// the reader, with what came on it.
+fn hear_kept<R: Read + Drop>(
+    alloc: Global,
+    keeps: Keeps,
+    request: Request,
+    reader: R,
+    sent: Result<(), ExchangeFault>,
+) -> (Request, Result<Answer, ExchangeFault>, Recording<R>)
+    ensures same { result.0 ≡ request }
+    ensures heard { IsHeard R.remaining (kept_for keeps request) reader sent result.1 }
+{
+    match keeps {
+        Keeps::Revisions => {
+            let (came, recording) = hear(alloc, &request, reader, sent);
+            (request, came, recording)
+        }
+        Keeps::Versions => hear_without(alloc, request, reader, sent),
+    }
+}
+
+/// Reads the answer to a request without its revision. It gives the request back with it.
+#[tactic(auto, using(crate::proofs::ServiceLemmas::request_again))]
+fn hear_without<R: Read + Drop>(
+    alloc: Global,
+    request: Request,
+    reader: R,
+    sent: Result<(), ExchangeFault>,
+) -> (Request, Result<Answer, ExchangeFault>, Recording<R>)
+    ensures same { result.0 ≡ request }
+    ensures heard { IsHeard R.remaining (kept_for Versions request) reader sent result.1 }
+{
+    let revision = request.revision();
+    let written = request.with_revision(None);
+    let (came, recording) = hear(alloc, &written, reader, sent);
+    (written.with_revision(revision), came, recording)
 }
 
 /// Reads the answer to a request, if it was sent whole. It returns the reader too, with what came on it.
