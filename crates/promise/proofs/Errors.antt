@@ -1,5 +1,5 @@
 -- Refusals of a message, and the fixed reply, as a client reads them.
-use Rattle.std.proofs.Common.{arith, ◌≡◌, ℕ, ℤ, suc, ◌≤◌, false, cond, List, Option, Some, None, Result, Ok, length, option_map, refl, ap, sym, subst, ◌∙◌, IsUtf8, codes}
+use Rattle.std.proofs.Common.{arith, ◌≡◌, ℕ, suc, ◌≤◌, false, List, Option, Some, None, length, option_map, refl, sym, subst, IsUtf8, codes}
 use Rattle.std.proofs.lemmas.Fmt.{IsAscii-decimal, decimal_digit, decimal_step}
 use Rattle.std.proofs.lemmas.Str.{IsUtf8-from_ascii}
 use Rattle.std.specs.Fmt.{decimal}
@@ -19,23 +19,16 @@ use Rattle.scim_message.specs.declared.refusals.Refusal.{Refusal}
 use Rattle.scim_message.specs.declared.refusals.Refusal.TheVariants.{UnreadableBody, ValueNotAllowed, FilterNotSupported, NameFixed, NoSuchResource, NameTaken, OtherVersion, MethodNotSupported, LimitReached, Malformed, Host, LengthMissing, BodyTooLong, HeadTooLong, TransferCoding, Expectation, MediaType, NoSuchPath}
 use Rattle.scim_http.specs.Laws.{fixed_error}
 use Rattle.scim_http.specs.Replies.{answer_text}
-use Rattle.scim_client.specs.Answers.{AnswersSo, etag_of}
+use Rattle.scim_client.specs.Answers.{AnswersSo}
 use Rattle.scim_client.specs.Spelling.{HasLawfulTarget, IsIdText}
 use Rattle.scim_resource.proofs.Tags.{id_is_text}
-use Rattle.scim_key.specs.declared.records.Kind.{Kind}
-use Rattle.scim_filter.specs.Expressions.{Expression}
-use Rattle.serde_json.specs.Data.{Data}
-use Rattle.scim_json.specs.Parsing.{json_of}
-use Rattle.http_text.specs.Message.{code_of}
-use Rattle.scim_message.specs.Answers.{error_in, is_error_status, read_body, said_if}
-use Rattle.scim_message.specs.declared.answers.BodyFault.{BodyFault}
-use Rattle.scim_message.specs.declared.messages.Answer.{Answer}
 use Rattle.scim_message.specs.declared.messages.Request.TheVariants.{Create, Retrieve, Search, Replace}
 use Rattle.provider_core.specs.Stories.{Entry}
 use Rattle.connector_core.specs.History.{History}
 use Rattle.world_model.proofs.Durable.{AskedFairly}
 use Rattle.world_sim.proofs.Fitting.{id_lawful}
 use Rattle.scim_client.proofs.AnswerLaws.{answers_are_read}
+use Rattle.scim_client.proofs.FilterLemmas.{any_filter}
 use Rattle.world_sim.proofs.BodySizes.{error_lawful, error_most}
 use Rattle.world_sim.proofs.HeadSizes.{keeps_answer_limits, length_within, nothing_within}
 
@@ -44,26 +37,6 @@ pub record IsReadable (error : ErrorRecord) : Type 0 where
   pub is_error : IsErrorOf error
   pub utf8 : IsUtf8 (compact_text (error_data error))
   pub short : length (compact_text (error_data error)) ≤ 30000
-
--- ---- a search is read without its filter
-
-search_said : (kind : Kind) (one two : Option Expression) (from : ℤ) (count : Option ℤ) (status : ℕ) (o : Option Data)
-    → said_if (Search kind one from count) status o ≡ said_if (Search kind two from count) status o
-search_said kind one two from count status None = refl
-search_said kind one two from count status (Some d) = refl
-
-search_read : (kind : Kind) (one two : Option Expression) (from : ℤ) (count : Option ℤ) (status : ℕ) (etag : Option (List ℕ)) (body : List ℕ)
-    → read_body (Search kind one from count) status etag body ≡ read_body (Search kind two from count) status etag body
-search_read kind one two from count status etag body =
-    ap (λ (r : Result Answer BodyFault). cond (is_error_status status) (Ok (Error (error_in status body))) r) (search_said kind one two from count status (json_of body))
-
-any_filter : (text : List ℕ) (kind : Kind) (one two : Option Expression) (from : ℤ) (count : Option ℤ) (answer : Answer) → AnswersSo text (Search kind one from count) answer
-    → AnswersSo text (Search kind two from count) answer
-any_filter text kind one two from count answer so = record {
-  message = so.message;
-  is_message = so.is_message;
-  says = search_read kind two one from count (code_of so.message.head.start) (etag_of so.message.head) so.message.body ∙ so.says;
-}
 
 -- ---- an error is read
 

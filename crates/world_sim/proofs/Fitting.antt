@@ -1,11 +1,10 @@
 -- Every message of a run, also among others, fits its limits, and is read as it was sent.
-use Rattle.std.proofs.Common.{◌≡◌, ℕ, suc, ◌≤◌, Bool, true, false, cond, ◌==◌, List, [], ◌∷◌, length, Option, Some, None, Result, Ok, Err, refl, ap, sym, ◌∙◌, subst, arith, eqb-true}
+use Rattle.std.proofs.Common.{◌≡◌, ℕ, suc, ◌≤◌, Bool, true, false, cond, ◌==◌, List, [], ◌∷◌, length, Option, Some, None, Ok, Err, refl, ap, sym, ◌∙◌, subst, arith, eqb-true}
 use Rattle.std.specs.Prelude.{ℤ, pos}
 use Rattle.std.specs.List.{AllByRecursion, slice_get}
 use Rattle.std.proofs.lemmas.Bool.Decides.{nat_tests}
 use Rattle.std.specs.Str.{IsUtf8}
 use Rattle.std.proofs.lemmas.Option.{slice_get_within}
-use Rattle.serde_json.specs.Data.{Data}
 use Rattle.serde_json.specs.Written.{compact_text}
 use Rattle.scim_key.specs.Bases.{IsBase}
 use Rattle.scim_key.specs.Identifiers.{IsId, id_fault, id_text}
@@ -30,7 +29,7 @@ use Rattle.scim_message.specs.Fitting.{Fits, Fits.created, Fits.listed as listed
 use Rattle.scim_message.specs.Refusals.{error_of}
 use Rattle.scim_message.specs.declared.lists.ListResponse.{ListResponse}
 use Rattle.scim_message.specs.declared.messages.Answer.{Answer}
-use Rattle.scim_message.specs.declared.messages.Answer.TheVariants.{Created, Found, Replaced, NotModified, Error}
+use Rattle.scim_message.specs.declared.messages.Answer.TheVariants.{Created, Replaced, Error}
 use Rattle.scim_message.specs.declared.messages.Answer.TheVariants as answers
 use Rattle.scim_message.specs.declared.messages.Request.{Request}
 use Rattle.scim_message.specs.declared.messages.Request.TheVariants.{Create, Retrieve, Search, Replace}
@@ -58,14 +57,11 @@ use Rattle.world_model.proofs.Ranking.{record_ours, row_lawful}
 use Rattle.world_model.proofs.Searched.{filter_of, kind_of, search_is, search_said as row_found}
 use Rattle.world_model.proofs.Sizes.{quoted_most, user_name_short, group_name_short}
 use Rattle.scim_client.specs.AnswerLaws.{KeepsAnswerLimits}
-use Rattle.scim_client.specs.Answers.{AnswersSo, etag_of}
+use Rattle.scim_client.specs.Answers.{AnswersSo}
 use Rattle.scim_client.specs.Spelling.{IsWritable, KeepsLimits, IsIdText}
 use Rattle.scim_client.proofs.AnswerLaws.{answers_are_read}
-use Rattle.scim_message.specs.declared.answers.BodyFault.{BodyFault}
-use Rattle.scim_message.specs.Answers.{read_body, said_if, is_error_status, error_in}
-use Rattle.scim_json.specs.Parsing.{json_of}
+use Rattle.scim_client.proofs.FilterLemmas.{any_filter}
 use Rattle.scim_http.specs.Replies.{answer_text}
-use Rattle.http_text.specs.Message.{code_of}
 use Rattle.world_sim.specs.Fitting.{IsWithinLimits, IsFormed, MessagesKeepLimits, MessagesAreRead, MessagesAreReadFrom}
 use Rattle.world_sim.specs.Messages.{message_text}
 use Rattle.world_sim.specs.Reading.{IsReadAs}
@@ -167,24 +163,6 @@ searching_tells es row law whole =
     (only_one (row_name row) list.total list.resources said says.says says.its))
 
 -- ---- a search is read without its filter
-
-search_said : (kind : Kind) (one two : Option Expression) (start : ℤ) (count : Option ℤ) (status : ℕ) (o : Option Data)
-    → said_if (Search kind one start count) status o ≡ said_if (Search kind two start count) status o
-search_said kind one two start count status None = refl
-search_said kind one two start count status (Some d) = refl
-
-search_read : (kind : Kind) (one two : Option Expression) (start : ℤ) (count : Option ℤ) (status : ℕ) (etag : Option (List ℕ)) (body : List ℕ)
-    → read_body (Search kind one start count) status etag body ≡ read_body (Search kind two start count) status etag body
-search_read kind one two start count status etag body =
-    ap (λ (r : Result Answer BodyFault). cond (is_error_status status) (Ok (Error (error_in status body))) r) (search_said kind one two start count status (json_of body))
-
-any_filter : (text : List ℕ) (kind : Kind) (one two : Option Expression) (start : ℤ) (count : Option ℤ) (answer : Answer) → AnswersSo text (Search kind one start count) answer
-    → AnswersSo text (Search kind two start count) answer
-any_filter text kind one two start count answer so = record {
-  message = so.message;
-  is_message = so.is_message;
-  says = search_read kind two one start count (code_of so.message.head.start) (etag_of so.message.head) so.message.body ∙ so.says;
-}
 
 without_filter : (kind : Kind) (wanted : Option Expression) (start : ℤ) (count : Option ℤ) (answer : Answer) → Fits (Search kind wanted start count) answer
     → Fits (Search kind None start count) answer
