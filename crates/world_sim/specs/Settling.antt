@@ -93,6 +93,6 @@ pub record SettlesRecord {R J : Type 0} (g : Registries R) (h : Journals J) (old
     (name : RecordName) (exchanges : ℕ) : Type 0 where
   pub done : SendsAndDelivers g h old new
   pub most : exchanges ≤ 3
-  pub made : IsSound g h new → {scope : Scope} (w : World) → IsAmong g h scope old w → (count : ℕ) (v : World) → count ≤ 3
-      → Exchanges w name count v → Rests v name
+  pub made : IsSound g h new → {scope : Scope} (w : World) → IsAmong g h scope old w → (count : ℕ) (v : World)
+      → count ≤ 3 → Exchanges w name count v → Rests v name
       → (exchanges ≡ count) × (run w done.events ≡ v)

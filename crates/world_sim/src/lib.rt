@@ -7,6 +7,7 @@ mod events;
 mod following;
 mod imaging;
 mod laws;
+mod learning;
 mod messages;
 mod others;
 mod printing;

@@ -1,20 +1,13 @@
 //! The world that runs.
-ghost use Rattle.std.specs.Prelude.{◌≡◌, ℕ, IfErr, IfOk, OnErr, OnOk, Err, false, true, is_ok};
-ghost use Rattle.std.specs.FinMap.{keys};
-ghost use Rattle.connector_core.specs.Changing.{accepted_map, book_after, judging};
-ghost use Rattle.connector_core.specs.Learning as spec;
-ghost use Rattle.connector_core.specs.Maps.{book_of};
-ghost use Rattle.connector_core.specs.State.{Leaves, LeavesBook};
+ghost use Rattle.std.specs.Prelude.{◌≡◌, IfErr, IfOk, OnErr, OnOk, Err, false, true, is_ok};
 ghost use Rattle.journal_core.specs.Calls as journals;
 ghost use Rattle.provider_core.specs.Calls as registries;
 ghost use Rattle.provider_core.specs.Outcomes.{outcome};
-ghost use Rattle.scim_client.specs.Answers.{AnswersSo};
-ghost use Rattle.scim_message.specs.declared.messages.Answer.{Answer};
 ghost use Rattle.scim_http.specs.Replies.{answer_text};
 ghost use Rattle.source_csv.specs.Records.{IsRow};
-ghost use Rattle.world_model.specs.Reports.{Judged, Taught, learnt_of, sending_report};
+ghost use Rattle.world_model.specs.Reports.{sending_report};
 ghost use Rattle.world_model.specs.World.{Answered, Asked, Changes, Cuts, Delivers, Doubts, Restarts_connector, Restarts_provider, Sends};
-ghost use Rattle.world_sim.specs.Events.{event_of, report_of, unaccepted, unlearnt};
+ghost use Rattle.world_sim.specs.Events.{event_of, report_of};
 ghost use Rattle.world_sim.specs.Fitting.{IsFormed};
 ghost use Rattle.world_sim.specs.GoingOn.{FailsOn, GoesOn, unknown_entries};
 ghost use Rattle.world_sim.specs.Running.{Apart, Arrives, Fails, FailsToArrive, Happens, IsOpenedBy, IsShutOff, Keeps, Posts, Starts, StartsAt, Stays, journal_after, journal_in, opens_after, opens_of};
@@ -23,18 +16,19 @@ ghost use Rattle.world_sim.specs.declared.reports.Report.TheVariants.{CutShort};
 ghost use Rattle.world_sim.specs.declared.reports.WorldFault.TheVariants.{Memory, Store};
 
 use crate::events::Event;
+use crate::learning::{hear, judge};
 use crate::messages::{Said, Sent, SentRequest, asked, sent_at};
-use crate::reading::{ReadingFault, read_answered, read_asked, read_cut};
+use crate::reading::{ReadingFault, read_asked, read_cut};
 use crate::reports::{Report, WorldFault};
 use crate::services::{OwnService, keeps_form};
 use crate::sides::{Side, reopened};
-use connector_core::{Ask, AskFault, ChangeFault, Connector, LearnFault};
+use connector_core::{Ask, AskFault, Connector};
 use core::mem::replace_with;
 use journal_core::{Journal, ReopenJournal};
 use provider_core::{Pending, Provider, Registry, Reopen};
 use scim_http::response_of;
 use scim_key::{Base, RecordName};
-use scim_message::{Answer, Request};
+use scim_message::Request;
 use source_csv::Row;
 use std::alloc::Global;
 
@@ -71,132 +65,6 @@ fn sending(number: usize, request: &Request) -> Report
         Request::Create { .. } => Report::Creating(number),
         Request::Replace { .. } => Report::Replacing(number),
         Request::Search { .. } | Request::Retrieve { .. } => Report::Finding(number),
-    }
-}
-
-/// The report of an answer from which nothing is learnt. A fault of the journal's store is the world's, and
-/// so is out of memory.
-fn unlearnt(fault: LearnFault) -> Result<Report, WorldFault>
-    ensures { result ≡ unlearnt fault }
-{
-    match fault {
-        LearnFault::Store => Err(WorldFault::Store),
-        LearnFault::Memory => Err(WorldFault::Memory),
-        LearnFault::Unfit
-        | LearnFault::Unversioned
-        | LearnFault::NoSuchRecord
-        | LearnFault::Refused { .. } => Ok(Report::Taught(Err(fault))),
-    }
-}
-
-/// The report of a row that isn't accepted. A fault of the journal's store is the world's, and so is out of memory.
-fn unaccepted(fault: ChangeFault) -> Result<Report, WorldFault>
-    ensures { result ≡ unaccepted fault }
-{
-    match fault {
-        ChangeFault::Store => Err(WorldFault::Store),
-        ChangeFault::Memory => Err(WorldFault::Memory),
-        ChangeFault::Differs | ChangeFault::NoSuchMember(_) | ChangeFault::TooMany => {
-            Ok(Report::Judged(Err(fault)))
-        }
-    }
-}
-
-/// What the connector learns from the answer to a request.
-fn learn<J: Journal>(
-    connector: &mut Connector<J>,
-    request: &Request,
-    answer: &Answer,
-) -> Result<Report, WorldFault>
-    ensures report { IfOk result (λ told. report_of told
-        ≡ Taught (learnt_of (spec.learn (book_of connector.old.book) request.now answer.now))) }
-    ensures book { OnOk result (book_of connector.new.book
-        ≡ spec.after_learning (book_of connector.old.book)
-        (spec.learn (book_of connector.old.book) request.now answer.now)) }
-    ensures names { keys connector.new.book ≡ keys connector.old.book }
-    ensures same { OnErr result (connector.new.book ≡ connector.old.book) }
-    ensures still { J.is_faithful connector.new.journal → LeavesBook J.Journal connector.old
-        → OnErr result (LeavesBook J.Journal connector.new) }
-    ensures honest { J.is_honest connector.new.journal → J.is_honest connector.old.journal }
-    ensures open { J.is_honest connector.new.journal → J.is_faithful connector.old.journal
-        → OnOk result (J.is_faithful connector.new.journal) }
-    ensures leaves { J.is_honest connector.new.journal → LeavesBook J.Journal connector.old
-        → Leaves J.Journal connector.old connector.new
-        (spec.after_learning (book_of connector.old.book)
-        (spec.learn (book_of connector.old.book) request.now answer.now))
-        (keys connector.old.book) result }
-    ensures counted { IfErr result
-        (CountsWorldFault (J.faults connector.old.journal) (J.faults connector.new.journal)) }
-{
-    match connector.learn(connector_core::Keeps::Revisions, request, answer) {
-        Ok(learnt) => Ok(Report::Taught(Ok(learnt))),
-        Err(fault) => unlearnt(fault),
-    }
-}
-
-/// What the connector says about a row.
-fn judge<J: Journal>(connector: &mut Connector<J>, row: Row) -> Result<Report, WorldFault>
-    ensures report { IfOk result (λ told. report_of told
-        ≡ Judged (judging (book_of connector.old.book) (keys connector.old.book) row)) }
-    ensures book { OnOk result (connector.new.book
-        ≡ accepted_map connector.old.book row
-        (judging (book_of connector.old.book) (keys connector.old.book) row)) }
-    ensures same { OnErr result (connector.new.book ≡ connector.old.book) }
-    ensures still { J.is_faithful connector.new.journal → LeavesBook J.Journal connector.old
-        → OnErr result (LeavesBook J.Journal connector.new) }
-    ensures honest { J.is_honest connector.new.journal → J.is_honest connector.old.journal }
-    ensures open { J.is_honest connector.new.journal → J.is_faithful connector.old.journal
-        → OnOk result (J.is_faithful connector.new.journal) }
-    ensures leaves { J.is_honest connector.new.journal → LeavesBook J.Journal connector.old
-        → Leaves J.Journal connector.old connector.new
-        (book_after (book_of connector.old.book) row
-        (judging (book_of connector.old.book) (keys connector.old.book) row))
-        (keys
-        (accepted_map connector.old.book row
-        (judging (book_of connector.old.book) (keys connector.old.book) row))) result }
-    ensures counted { IfErr result
-        (CountsWorldFault (J.faults connector.old.journal) (J.faults connector.new.journal)) }
-{
-    match connector.change(row) {
-        Ok(verdict) => Ok(Report::Judged(Ok(verdict))),
-        Err(fault) => unaccepted(fault),
-    }
-}
-
-/// The answer to a request arrives in these bytes.
-fn hear<J: Journal>(
-    alloc: Global,
-    connector: &mut Connector<J>,
-    request: &Request,
-    bytes: &[u8],
-) -> Result<Report, WorldFault>
-    ensures report { (answer : Answer) → AnswersSo bytes.now request.now answer
-        → IfOk result (λ told. report_of told
-        ≡ Taught (learnt_of (spec.learn (book_of connector.old.book) request.now answer))) }
-    ensures book { (answer : Answer) → AnswersSo bytes.now request.now answer
-        → OnOk result (book_of connector.new.book
-        ≡ spec.after_learning (book_of connector.old.book)
-        (spec.learn (book_of connector.old.book) request.now answer)) }
-    ensures names { keys connector.new.book ≡ keys connector.old.book }
-    ensures same { OnErr result (connector.new.book ≡ connector.old.book) }
-    ensures still { J.is_faithful connector.new.journal → LeavesBook J.Journal connector.old
-        → OnErr result (LeavesBook J.Journal connector.new) }
-    ensures honest { J.is_honest connector.new.journal → J.is_honest connector.old.journal }
-    ensures open { J.is_honest connector.new.journal → J.is_faithful connector.old.journal
-        → OnOk result (J.is_faithful connector.new.journal) }
-    ensures leaves { (answer : Answer) → AnswersSo bytes.now request.now answer
-        → J.is_honest connector.new.journal → LeavesBook J.Journal connector.old
-        → Leaves J.Journal connector.old connector.new
-        (spec.after_learning (book_of connector.old.book)
-        (spec.learn (book_of connector.old.book) request.now answer))
-        (keys connector.old.book) result }
-    ensures counted { IfErr result
-        (CountsWorldFault (J.faults connector.old.journal) (J.faults connector.new.journal)) }
-{
-    match read_answered(alloc, request, bytes) {
-        Ok(answer) => learn(connector, request, &answer),
-        Err(ReadingFault::Unread) => Ok(Report::NoMessage),
-        Err(ReadingFault::Memory) => Err(WorldFault::Memory),
     }
 }
 

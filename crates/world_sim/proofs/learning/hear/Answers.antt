@@ -9,7 +9,7 @@ use Rattle.world_sim.specs.Events.{report_of}
 use Rattle.world_sim.specs.Reading.{IsOrMemory}
 use Rattle.world_sim.specs.declared.reading.ReadingFault.TheVariants.{Unread}
 use Rattle.world_sim.proofs.Readings.{no_unread, one_read}
-use Rattle.world_sim.proofs.worlds.hear.Goals as goal
+use Rattle.world_sim.proofs.learning.hear.Goals as goal
 
 pub returns-in-Ok-clause-report : goal.returns-in-Ok-clause-report
 returns-in-Ok-clause-report g c = λ answer reads.

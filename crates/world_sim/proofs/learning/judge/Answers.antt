@@ -1,6 +1,6 @@
 use Rattle.world_sim.proofs.Calls.{counts_no_row, is_no_row, reports_no_row, still_leaves, takes_no_row, told_leaves, told_open}
 use Rattle.world_sim.proofs.Keeping.{all_err}
-use Rattle.world_sim.proofs.worlds.judge.Goals as goal
+use Rattle.world_sim.proofs.learning.judge.Goals as goal
 
 pub returns-in-Err-clause-report : goal.returns-in-Err-clause-report
 returns-in-Err-clause-report g c = reports_no_row c.in-Err.fault c.unaccepted.result c.unaccepted.ensures _ c.in-Err.ensures.verdict

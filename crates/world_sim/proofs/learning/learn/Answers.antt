@@ -2,7 +2,7 @@ use Rattle.std.proofs.Common.{ap}
 use Rattle.connector_core.specs.Maps.{book_of}
 use Rattle.world_sim.proofs.Calls.{counts_fault, is_rejected, learns_nothing, reports_fault, still_leaves, told_leaves, told_open}
 use Rattle.world_sim.proofs.Keeping.{all_err}
-use Rattle.world_sim.proofs.worlds.learn.Goals as goal
+use Rattle.world_sim.proofs.learning.learn.Goals as goal
 
 pub returns-in-Err-clause-report : goal.returns-in-Err-clause-report
 returns-in-Err-clause-report g c = reports_fault c.in-Err.fault c.unlearnt.result c.unlearnt.ensures _ c.in-Err.ensures.learnt
