@@ -4,6 +4,7 @@
 mod arguments;
 mod causes;
 mod options;
+mod parsing;
 mod simulating;
 
 use arguments::{arguments, tell};
@@ -11,7 +12,7 @@ use causes::report;
 use clap::ArgMatches;
 use commands::words::{journal, store};
 use commands::{CommandFault, Status, told};
-use options::{events_help, program};
+use parsing::{events_help, program};
 use std::alloc::Global;
 use std::net::Net;
 use std::process::ExitCode;
