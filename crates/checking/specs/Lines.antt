@@ -4,17 +4,13 @@ use Rattle.std.specs.Fmt.{decimal}
 use Rattle.std.specs.Io.KnownBytes.{Appends}
 use Rattle.std.specs.List.{flat_map}
 use Rattle.scim_key.specs.Revisions.{RevisionValue, revision_text}
-use Rattle.scim_key.specs.declared.records.Kind.{Kind}
-use Rattle.scim_key.specs.declared.records.Kind.TheVariants as kinds
 use Rattle.scim_key.specs.declared.records.RecordName.{RecordName}
 use Rattle.scim_resource.specs.Contents.{content_kind, content_revision, spelled_name}
 use Rattle.scim_resource.specs.declared.contents.Content.{Content}
 use Rattle.scim_resource.specs.declared.emails.Email.{Email}
-use Rattle.scim_resource.specs.declared.user_texts.UserText.{UserText}
-use Rattle.scim_resource.specs.declared.user_texts.UserText.TheVariants as texts
 use Rattle.journal_core.specs.Printable.{printable_text}
 use Rattle.journal_core.specs.Words.{kind_word}
-use Rattle.provisioning.specs.Lines.{record_fault_text}
+use Rattle.provisioning.specs.Lines.{name_label, record_fault_text, text_label}
 use Rattle.comparing.specs.Aspects.{agree, content_emails, content_text, is_active, is_same, missing, surplus}
 use Rattle.comparing.specs.declared.aspects.Aspect.{Aspect}
 use Rattle.comparing.specs.declared.aspects.Aspect.TheVariants as aspect
@@ -26,18 +22,6 @@ use Rattle.checking.specs.declared.findings.Finding.{Finding}
 use Rattle.checking.specs.declared.findings.Finding.TheVariants.{Found, Above, Gone, Unchecked}
 use Rattle.checking.specs.declared.looking.Hindrance.{Hindrance}
 use Rattle.checking.specs.declared.looking.Hindrance.TheVariants.{Fault, Waits}
-
--- ---- the words for an aspect
-
-abbrev pub name_label : Kind → List ℕ
-name_label kinds.User = codes "userName"
-name_label kinds.Group = codes "displayName"
-
-abbrev pub text_label : UserText → List ℕ
-text_label texts.Department = codes "department"
-text_label texts.ExternalId = codes "externalId"
-text_label texts.FamilyName = codes "familyName"
-text_label texts.GivenName = codes "givenName"
 
 -- ---- what a side says
 

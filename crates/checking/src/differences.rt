@@ -2,15 +2,16 @@
 ghost use Rattle.std.specs.Prelude.{◌≡◌, ◌++◌, Some, true};
 ghost use Rattle.std.specs.Option.{option_copied};
 ghost use Rattle.comparing.specs.declared.aspects.TheConstants.{ASPECTS};
-ghost use Rattle.checking.specs.Lines.{difference_text, differences_text, email_text, emails_text, flag_text, id_if, more_text, name_label, other_id_text, primary_text, quoted_if, revision_if, separator, sides_text, text_label, type_text};
+ghost use Rattle.checking.specs.Lines.{difference_text, differences_text, email_text, emails_text, flag_text, id_if, more_text, other_id_text, primary_text, quoted_if, revision_if, separator, sides_text, type_text};
 
 use crate::beside::Beside;
 use comparing::{
     ASPECTS, Aspect, agree, content_emails, content_text, is_active, is_as_wanted, missing, surplus,
 };
 use journal_core::Printable;
-use scim_key::{Kind, ResourceId, Revision};
-use scim_resource::{Content, Email, UserText};
+use provisioning::{name_label, text_label};
+use scim_key::{ResourceId, Revision};
+use scim_resource::{Content, Email};
 use std::fmt;
 
 /// What differs of a resource, a text for each aspect, with `; ` between two, and another id last.
@@ -143,26 +144,6 @@ impl<'a> fmt::Display for Difference<'a> {
                 )
             }
         }
-    }
-}
-
-fn name_label(kind: Kind) -> &'static str
-    ensures { result.now ≡ name_label kind }
-{
-    match kind {
-        Kind::User => "userName",
-        Kind::Group => "displayName",
-    }
-}
-
-fn text_label(which: UserText) -> &'static str
-    ensures { result.now ≡ text_label which }
-{
-    match which {
-        UserText::Department => "department",
-        UserText::ExternalId => "externalId",
-        UserText::FamilyName => "familyName",
-        UserText::GivenName => "givenName",
     }
 }
 

@@ -3,7 +3,10 @@ use Rattle.std.specs.Prelude.{ℕ, Bool, true, false, ◌==◌, List, [], ◌++�
 use Rattle.std.specs.Fmt.{decimal}
 use Rattle.scim_key.specs.Revisions.{revision_text}
 use Rattle.scim_key.specs.declared.records.Kind.{Kind}
+use Rattle.scim_key.specs.declared.records.Kind.TheVariants as kinds
 use Rattle.scim_key.specs.declared.records.RecordName.{RecordName}
+use Rattle.scim_resource.specs.declared.user_texts.UserText.{UserText}
+use Rattle.scim_resource.specs.declared.user_texts.UserText.TheVariants as texts
 use Rattle.journal_core.specs.Words.{kind_word}
 use Rattle.scim_client.specs.Codes.{exchange_fault_text}
 use Rattle.connector_core.specs.Codes.{change_fault_text}
@@ -65,3 +68,15 @@ abbrev pub older_text : Kind → (place : ℕ) → OlderRow → List ℕ
 older_text kind place older = label kind ++ (codes " record " ++ (decimal place ++ (codes ": older, " ++
     (revision_text older.revision ++ (codes " is below " ++
     (revision_text older.wanted ++ leaver_text older.is_leaver))))))
+
+-- ---- the words for an aspect
+
+abbrev pub name_label : Kind → List ℕ
+name_label kinds.User = codes "userName"
+name_label kinds.Group = codes "displayName"
+
+abbrev pub text_label : UserText → List ℕ
+text_label texts.Department = codes "department"
+text_label texts.ExternalId = codes "externalId"
+text_label texts.FamilyName = codes "familyName"
+text_label texts.GivenName = codes "givenName"
