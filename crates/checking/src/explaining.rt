@@ -5,7 +5,7 @@ use crate::findings::Finding;
 use crate::looking::Hindrance;
 use crate::telling::TellFinding;
 use connector_core::Keeps;
-use provisioning::{Dial, Explanations, Failed, Heard, RecordFault, tell_last};
+use provisioning::{Dial, Ended, Explanations, Heard, RecordFault, tell_last};
 use scim_client::ExchangeFault;
 use scim_key::{RecordName, Revision};
 use scim_message::{Answer, Request};
@@ -27,9 +27,9 @@ pub(crate) fn explain<'x, D: Dial>(
     came: &'x Result<Answer, ExchangeFault>,
 ) {
     if let Some(fault) = fault_in(wanted, came) {
-        dial.explain(&Failed {
+        dial.explain(&Ended {
             alloc,
-            fault,
+            fault: Some(fault),
             name,
             request,
             heard,

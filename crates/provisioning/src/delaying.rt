@@ -6,7 +6,7 @@ ghost use Rattle.provisioning.specs.Delays.{is_number, number_in, seconds_in};
 
 use crate::delays::{Delays, put_off, take_due, time_left};
 use crate::dialing::Dial;
-use crate::explaining::Failed;
+use crate::explaining::Ended;
 use crate::heads::Head;
 use crate::recording::Heard;
 use journal_core::kind_word;
@@ -45,8 +45,8 @@ impl<'a, D: Dial + Drop, R: Clock + Eprint> Dial for Delaying<'a, D, R> {
         self.dial.end(reader, writer);
     }
 
-    fn explain(&self, failed: &Failed<'_>) {
-        self.dial.explain(failed);
+    fn explain(&self, ended: &Ended<'_>) {
+        self.dial.explain(ended);
     }
 
     /// Prints that the record waits. If the clock fails or memory runs out, it doesn't wait.

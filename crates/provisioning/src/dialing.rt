@@ -3,7 +3,7 @@ ghost use Rattle.std.specs.Prelude.{◌∷◌, [], List, Option, None};
 ghost use Rattle.provisioning.specs.Lists.{Adds};
 ghost use Rattle.provisioning.specs.Openings.{Opening};
 
-use crate::explaining::Failed;
+use crate::explaining::Ended;
 use crate::recording::Heard;
 use scim_key::RecordName;
 use std::io;
@@ -26,8 +26,9 @@ pub trait Dial {
     /// Ends a stream after its exchange.
     fn end(&self, reader: Self::Reader, writer: Self::Writer);
 
-    /// Hears of the fault of an exchange, after its stream has ended. Whoever explains faults uses it.
-    fn explain(&self, _: &Failed<'_>) {}
+    /// Hears of an exchange that had a fault, or after which its record is confirmed, when its stream has ended. Whoever
+    /// explains exchanges uses it.
+    fn explain(&self, _: &Ended<'_>) {}
 
     /// Whether the next exchange of a record waits, since the answer that was heard asks for it.
     fn puts_off(&self, _: &RecordName, _: &Heard) -> bool {

@@ -3,7 +3,7 @@ ghost use Rattle.std.specs.Prelude.{Ok};
 ghost use Rattle.provisioning.specs.Exchanges.{IsTaken, IsTaught};
 
 use crate::dialing::Dial;
-use crate::explaining::Failed;
+use crate::explaining::Ended;
 use crate::faults::{RecordFault, RunFault, unanswered, unlearnt};
 use crate::recording::Heard;
 use crate::services::{ServiceProvider, take_from};
@@ -14,7 +14,7 @@ use scim_key::RecordName;
 use scim_message::{Answer, Request};
 use std::alloc::Global;
 
-/// Has the fault of an exchange explained, if it had one.
+/// Has an exchange explained that had a fault, or after which its record is confirmed.
 pub(crate) fn explain<'x, J: Journal, D: Dial>(
     alloc: Global,
     keeps: Keeps,
@@ -26,8 +26,11 @@ pub(crate) fn explain<'x, J: Journal, D: Dial>(
     came: &'x Result<Answer, ExchangeFault>,
     taken: Result<Option<RecordFault>, RunFault>,
 ) {
-    if let Ok(Some(fault)) = taken {
-        let failed = Failed {
+    let Ok(fault) = taken else {
+        return;
+    };
+    if fault.is_some() || connector.is_done(name) {
+        let ended = Ended {
             alloc,
             fault,
             name,
@@ -38,7 +41,7 @@ pub(crate) fn explain<'x, J: Journal, D: Dial>(
             id: connector.id(name),
             keeps,
         };
-        dial.explain(&failed);
+        dial.explain(&ended);
     }
 }
 

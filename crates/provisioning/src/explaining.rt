@@ -1,4 +1,4 @@
-//! Finds what the fault of an exchange was.
+//! Finds what is said of an exchange.
 use crate::excerpts::Excerpt;
 use crate::explanations::{Explanation, Phrase};
 use crate::faults::RecordFault;
@@ -6,6 +6,7 @@ use crate::heads::Head;
 use crate::losses::{Loss, cut, unread, unsent};
 use crate::misreadings::misread;
 use crate::recording::Heard;
+use crate::values::OtherValues;
 use comparing::is_active;
 use connector_core::Keeps;
 use scim_client::ExchangeFault;
@@ -14,11 +15,12 @@ use scim_message::{Answer, ErrorResponse, ListResponse, Request};
 use scim_resource::{Content, Shown};
 use std::alloc::{AllocError, Global};
 
-/// An exchange that had a fault, and what the connector knows about its record.
+/// An exchange that had a fault, or after which its record is confirmed, and what the connector knows about its record.
 #[derive(Clone, Copy)]
-pub struct Failed<'a> {
+pub struct Ended<'a> {
     pub alloc: Global,
-    pub fault: RecordFault,
+    /// The fault. Without one the record is confirmed.
+    pub fault: Option<RecordFault>,
     pub name: &'a RecordName,
     pub request: &'a Request,
     /// What came on its stream.
@@ -33,31 +35,61 @@ pub struct Failed<'a> {
     pub keeps: Keeps,
 }
 
+/// What is said of an exchange. `None` if nothing is.
+pub(crate) fn explain(ended: &Ended<'_>) -> Result<Option<Explanation>, AllocError> {
+    match ended.fault {
+        Some(fault) => explain_fault(ended, fault),
+        None => explain_values(ended),
+    }
+}
+
 /// What the fault of an exchange was. `None` if nothing more can be said of it.
-pub(crate) fn explain(failed: &Failed<'_>) -> Result<Option<Explanation>, AllocError> {
-    match failed.fault {
-        RecordFault::Unfit => explain_unfit(failed),
+fn explain_fault(ended: &Ended<'_>, fault: RecordFault) -> Result<Option<Explanation>, AllocError> {
+    match fault {
+        RecordFault::Unfit => explain_unfit(ended),
         RecordFault::Unversioned => phrase(Phrase::NoTag),
-        RecordFault::Refused(_) => explain_refused(failed),
-        RecordFault::Unanswered(fault) => explain_unanswered(failed, fault),
+        RecordFault::Refused(_) => explain_refused(ended),
+        RecordFault::Unanswered(fault) => explain_unanswered(ended, fault),
         RecordFault::NoSuchRecord => Ok(None),
+    }
+}
+
+/// What a provider that drops revisions shows with other values than were asked. `None` if there is nothing so, or its
+/// answer is that to another request.
+fn explain_values(ended: &Ended<'_>) -> Result<Option<Explanation>, AllocError> {
+    match (ended.keeps, carried(ended.request), ended.answer) {
+        (Keeps::Versions, Some(asked), Some(Answer::Created(shown) | Answer::Replaced(shown))) => {
+            match OtherValues::between(ended.alloc, asked, shown.content())? {
+                Some(values) => Ok(Some(Explanation::OtherValues(values))),
+                None => Ok(None),
+            }
+        }
+        _ => Ok(None),
+    }
+}
+
+/// The content that a request carries, if it carries one.
+fn carried(request: &Request) -> Option<&Content> {
+    match request {
+        Request::Create { content } | Request::Replace { content, .. } => Some(content),
+        Request::Retrieve { .. } | Request::Search { .. } => None,
     }
 }
 
 /// Why no answer came.
 fn explain_unanswered(
-    failed: &Failed<'_>,
+    ended: &Ended<'_>,
     fault: ExchangeFault,
 ) -> Result<Option<Explanation>, AllocError> {
     match fault {
         ExchangeFault::Unsent(fault) => Ok(Some(Explanation::Loss(unsent(fault)))),
-        ExchangeFault::EndedEarly => Ok(Some(Explanation::Loss(cut(failed)?))),
-        ExchangeFault::ReadFailed => Ok(Some(Explanation::Loss(unread(failed.heard)))),
+        ExchangeFault::EndedEarly => Ok(Some(Explanation::Loss(cut(ended)?))),
+        ExchangeFault::ReadFailed => Ok(Some(Explanation::Loss(unread(ended.heard)))),
         ExchangeFault::TurnsExhausted => {
-            let count = failed.heard.count();
+            let count = ended.heard.count();
             Ok(Some(Explanation::Loss(Loss::SlowReading { count })))
         }
-        ExchangeFault::NoAnswer(fault) => match misread(failed, fault)? {
+        ExchangeFault::NoAnswer(fault) => match misread(ended, fault)? {
             Some(misreading) => Ok(Some(Explanation::Misreading(misreading))),
             None => Ok(None),
         },
@@ -70,32 +102,32 @@ fn phrase(phrase: Phrase) -> Result<Option<Explanation>, AllocError> {
 }
 
 /// What a provider said when it refused.
-fn explain_refused(failed: &Failed<'_>) -> Result<Option<Explanation>, AllocError> {
-    match failed.answer {
-        Some(Answer::Error(error)) => Ok(Some(refused(failed, error)?)),
+fn explain_refused(ended: &Ended<'_>) -> Result<Option<Explanation>, AllocError> {
+    match ended.answer {
+        Some(Answer::Error(error)) => Ok(Some(refused(ended, error)?)),
         _ => Ok(None),
     }
 }
 
-fn refused(failed: &Failed<'_>, error: &ErrorResponse) -> Result<Explanation, AllocError> {
+fn refused(ended: &Ended<'_>, error: &ErrorResponse) -> Result<Explanation, AllocError> {
     let detail = match error.detail() {
-        Some(detail) => Some(Excerpt::of(failed.alloc, detail.as_bytes())?),
+        Some(detail) => Some(Excerpt::of(ended.alloc, detail.as_bytes())?),
         None => None,
     };
     let status = error.status();
     Ok(Explanation::Refused {
         status,
         detail,
-        retry_after: retry_after(failed, status)?,
+        retry_after: retry_after(ended, status)?,
     })
 }
 
 /// When a provider with too many requests (RFC 6585, section 4), or that isn't available (RFC 9110, section
 /// 15.6.4), wants to be asked again, if it says so.
-fn retry_after(failed: &Failed<'_>, status: u16) -> Result<Option<Excerpt>, AllocError> {
-    match (status, Head::of(failed.heard.first())) {
+fn retry_after(ended: &Ended<'_>, status: u16) -> Result<Option<Excerpt>, AllocError> {
+    match (status, Head::of(ended.heard.first())) {
         (429 | 503, Some(head)) => match head.field("retry-after") {
-            Some(time) => Ok(Some(Excerpt::of(failed.alloc, time)?)),
+            Some(time) => Ok(Some(Excerpt::of(ended.alloc, time)?)),
             None => Ok(None),
         },
         _ => Ok(None),
@@ -103,20 +135,20 @@ fn retry_after(failed: &Failed<'_>, status: u16) -> Result<Option<Excerpt>, Allo
 }
 
 /// Why an answer can't be about the record.
-fn explain_unfit(failed: &Failed<'_>) -> Result<Option<Explanation>, AllocError> {
-    match failed.answer {
+fn explain_unfit(ended: &Ended<'_>) -> Result<Option<Explanation>, AllocError> {
+    match ended.answer {
         Some(Answer::Created(shown) | Answer::Found(shown) | Answer::Replaced(shown)) => {
-            Ok(Some(unfit(failed, shown)?))
+            Ok(Some(unfit(ended, shown)?))
         }
-        Some(Answer::List(list)) => Ok(Some(unfit_list(failed, list)?)),
+        Some(Answer::List(list)) => Ok(Some(unfit_list(ended, list)?)),
         _ => phrase(Phrase::OtherAnswer),
     }
 }
 
 /// Why a list can't be about the record.
-fn unfit_list(failed: &Failed<'_>, list: &ListResponse) -> Result<Explanation, AllocError> {
+fn unfit_list(ended: &Ended<'_>, list: &ListResponse) -> Result<Explanation, AllocError> {
     match list.resources.as_slice() {
-        [only] if list.total == 1 => unfit(failed, only),
+        [only] if list.total == 1 => unfit(ended, only),
         resources => Ok(Explanation::Found {
             total: list.total,
             listed: resources.len(),
@@ -125,17 +157,17 @@ fn unfit_list(failed: &Failed<'_>, list: &ListResponse) -> Result<Explanation, A
 }
 
 /// Why a resource can't be that of the record.
-fn unfit(failed: &Failed<'_>, shown: &Shown) -> Result<Explanation, AllocError> {
+fn unfit(ended: &Ended<'_>, shown: &Shown) -> Result<Explanation, AllocError> {
     let content = shown.content();
-    if !is_named(failed.name, content) {
+    if !is_named(ended.name, content) {
         let name = content.spelled_name();
-        return Ok(Explanation::OtherName(Excerpt::of(failed.alloc, name.as_bytes())?));
+        return Ok(Explanation::OtherName(Excerpt::of(ended.alloc, name.as_bytes())?));
     }
-    match failed.id {
+    match ended.id {
         Some(known) if known.as_str() != shown.id().as_str() => {
-            other_id(failed.alloc, shown.id(), known)
+            other_id(ended.alloc, shown.id(), known)
         }
-        _ => Ok(unfit_content(failed, content)),
+        _ => Ok(unfit_content(ended, content)),
     }
 }
 
@@ -159,9 +191,9 @@ fn other_id(
 }
 
 /// Why a resource with this content isn't the record's.
-fn unfit_content(failed: &Failed<'_>, content: &Content) -> Explanation {
-    match failed.keeps {
-        Keeps::Revisions => unfit_revision(failed.wanted, content.revision()),
+fn unfit_content(ended: &Ended<'_>, content: &Content) -> Explanation {
+    match ended.keeps {
+        Keeps::Revisions => unfit_revision(ended.wanted, content.revision()),
         Keeps::Versions => Explanation::Activity {
             shown: is_active(content),
         },

@@ -1,10 +1,11 @@
-//! What the fault of an exchange was, in words.
+//! What is said of an exchange, in words.
 ghost use Rattle.std.specs.Prelude.{◌≡◌};
 ghost use Rattle.provisioning.specs.Explanations.{phrase_text};
 
 use crate::excerpts::Excerpt;
 use crate::losses::Loss;
 use crate::misreadings::Misreading;
+use crate::values::OtherValues;
 use scim_key::Revision;
 use std::fmt;
 
@@ -31,7 +32,8 @@ impl Phrase {
     }
 }
 
-/// What the fault of an exchange was. Its text is printed on standard error.
+/// What is said of an exchange: what its fault was, or what a provider that confirmed the record shows with other values
+/// than were asked. Its text is printed on standard error.
 #[derive(Drop)]
 pub enum Explanation {
     Phrase(Phrase),
@@ -66,6 +68,8 @@ pub enum Explanation {
         shown: Revision,
         wanted: Revision,
     },
+    /// The record is confirmed.
+    OtherValues(OtherValues),
 }
 
 /// A refusal.
@@ -122,6 +126,7 @@ impl fmt::Display for Explanation {
             Explanation::Above { shown, wanted } => {
                 write!(f, "revision {shown} is above the wanted {wanted}")
             }
+            Explanation::OtherValues(values) => write!(f, "{values}"),
         }
     }
 }

@@ -1,5 +1,5 @@
 //! The explanations of records that aren't reported yet.
-use crate::explaining::{Failed, explain};
+use crate::explaining::{Ended, explain};
 use crate::explanations::Explanation;
 use scim_key::RecordName;
 use std::alloc::{AllocError, Global};
@@ -12,22 +12,22 @@ struct Kept {
     explanation: Explanation,
 }
 
-/// The last explanation of each record that isn't reported yet and had a fault. At most a window of records
+/// The last explanation of each record that isn't reported yet and has one. At most a window of records
 /// is under way, so each is looked for from the first on.
 #[derive(Drop)]
 pub struct Explanations {
     kept: Vec<Kept>,
 }
 
-/// Keeps what the fault of an exchange was, in place of what was kept of its record. If memory runs out,
+/// Keeps what is said of an exchange, in place of what was kept of its record. If memory runs out,
 /// nothing is kept of it.
-pub(crate) fn keep(explanations: &Cell<Option<Explanations>>, failed: &Failed<'_>) {
+pub(crate) fn keep(explanations: &Cell<Option<Explanations>>, ended: &Ended<'_>) {
     let mut all = match explanations.replace(None) {
         Some(all) => all,
-        None => Explanations::new(failed.alloc),
+        None => Explanations::new(ended.alloc),
     };
-    let _ = all.take(failed.name);
-    let _ = all.add(failed);
+    let _ = all.take(ended.name);
+    let _ = all.add(ended);
     explanations.set(Some(all));
 }
 
@@ -49,10 +49,10 @@ impl Explanations {
         }
     }
 
-    /// Adds what the fault of an exchange was.
-    fn add(&mut self, failed: &Failed<'_>) -> Result<(), AllocError> {
-        if let Some(explanation) = explain(failed)? {
-            let name = failed.name.clone()?;
+    /// Adds what is said of an exchange, if anything is.
+    fn add(&mut self, ended: &Ended<'_>) -> Result<(), AllocError> {
+        if let Some(explanation) = explain(ended)? {
+            let name = ended.name.clone()?;
             self.kept.push(Kept { name, explanation })?;
         }
         Ok(())

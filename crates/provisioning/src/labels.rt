@@ -2,8 +2,21 @@
 ghost use Rattle.std.specs.Prelude.{◌≡◌};
 ghost use Rattle.provisioning.specs.Lines.{name_label, text_label};
 
+use comparing::Aspect;
 use scim_key::Kind;
 use scim_resource::UserText;
+
+/// The word for an aspect of a user or a group.
+pub(crate) fn aspect_label(kind: Kind, aspect: Aspect) -> &'static str {
+    match aspect {
+        Aspect::Active => "active",
+        Aspect::Name => name_label(kind),
+        Aspect::Text(which) => text_label(which),
+        Aspect::Emails => "emails",
+        Aspect::Members => "members",
+        Aspect::Revision => "revision",
+    }
+}
 
 /// The word for the name of a user or a group.
 pub fn name_label(kind: Kind) -> &'static str

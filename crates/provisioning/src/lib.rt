@@ -42,13 +42,14 @@ mod streaks;
 mod telling;
 mod today;
 mod tracks;
+mod values;
 mod watching;
 mod windows;
 
 pub use carrying::{Outcome, carry, carry_at};
 pub use dialing::Dial;
 pub use dry_runs::open_copy;
-pub use explaining::Failed;
+pub use explaining::Ended;
 pub use faults::{RecordFault, RunFault, open_fault, unwritten};
 pub use files::ReadFiles;
 pub use keeping::Explanations;

@@ -1,6 +1,6 @@
 //! Why no answer came, as far as the stream says.
 use crate::excerpts::Excerpt;
-use crate::explaining::Failed;
+use crate::explaining::Ended;
 use crate::recording::Heard;
 use http_text::{SendFault, TURN_LIMIT};
 use std::alloc::AllocError;
@@ -33,14 +33,14 @@ pub(crate) fn unsent(fault: SendFault) -> Loss {
 }
 
 /// How the stream of an exchange ended early.
-pub(crate) fn cut(failed: &Failed<'_>) -> Result<Loss, AllocError> {
-    let heard = failed.heard;
+pub(crate) fn cut(ended: &Ended<'_>) -> Result<Loss, AllocError> {
+    let heard = ended.heard;
     if heard.count() == 0 {
         return Ok(Loss::Silence);
     }
     Ok(Loss::Cut {
         count: heard.count(),
-        first: Excerpt::of(failed.alloc, heard.first())?,
+        first: Excerpt::of(ended.alloc, heard.first())?,
     })
 }
 

@@ -1,6 +1,6 @@
 //! Why what came isn't an answer to the request.
 use crate::excerpts::Excerpt;
-use crate::explaining::Failed;
+use crate::explaining::Ended;
 use crate::heads::Head;
 use crate::recording::KEPT_LIMIT;
 use http_text::RESPONSE_BODY_LIMIT;
@@ -59,15 +59,15 @@ pub enum Misreading {
 
 /// Which rule the response of an exchange breaks. `None` if memory ran out.
 pub(crate) fn misread(
-    failed: &Failed<'_>,
+    ended: &Ended<'_>,
     fault: AnswerFault,
 ) -> Result<Option<Misreading>, AllocError> {
-    let came = failed.heard.first();
+    let came = ended.heard.first();
     match (fault, Head::of(came)) {
         (AnswerFault::OutOfMemory, _) => Ok(None),
-        (_, Some(head)) => Ok(Some(broken(failed, fault, &head)?)),
+        (_, Some(head)) => Ok(Some(broken(ended, fault, &head)?)),
         (AnswerFault::NotOneResponse, None) => {
-            let came = Excerpt::of(failed.alloc, came)?;
+            let came = Excerpt::of(ended.alloc, came)?;
             Ok(Some(Misreading::NoResponse(came)))
         }
         (AnswerFault::NotJson | AnswerFault::WrongShape, None) => Ok(Some(Misreading::LongHead)),
@@ -76,21 +76,19 @@ pub(crate) fn misread(
 
 /// Which rule a response with this head breaks.
 fn broken(
-    failed: &Failed<'_>,
+    ended: &Ended<'_>,
     fault: AnswerFault,
     head: &Head<'_>,
 ) -> Result<Misreading, AllocError> {
     match head.field("location") {
         Some(location) if head.status / 100 == 3 => Ok(Misreading::Elsewhere {
             status: head.status,
-            location: Excerpt::of(failed.alloc, location)?,
+            location: Excerpt::of(ended.alloc, location)?,
         }),
         _ => match fault {
-            AnswerFault::NotJson => not_json(failed, head),
-            AnswerFault::WrongShape => other_shape(failed, head),
-            AnswerFault::NotOneResponse | AnswerFault::OutOfMemory => {
-                endless(failed.alloc, head)
-            }
+            AnswerFault::NotJson => not_json(ended, head),
+            AnswerFault::WrongShape => other_shape(ended, head),
+            AnswerFault::NotOneResponse | AnswerFault::OutOfMemory => { endless(ended.alloc, head) }
         },
     }
 }
@@ -112,8 +110,8 @@ fn endless(alloc: Global, head: &Head<'_>) -> Result<Misreading, AllocError> {
 }
 
 /// What a body is that isn't JSON.
-fn not_json(failed: &Failed<'_>, head: &Head<'_>) -> Result<Misreading, AllocError> {
-    let (alloc, status) = (failed.alloc, head.status);
+fn not_json(ended: &Ended<'_>, head: &Head<'_>) -> Result<Misreading, AllocError> {
+    let (alloc, status) = (ended.alloc, head.status);
     if head.rest().is_empty() {
         return Ok(Misreading::WithoutBody { status });
     }
@@ -129,14 +127,14 @@ fn not_json(failed: &Failed<'_>, head: &Head<'_>) -> Result<Misreading, AllocErr
 }
 
 /// Why JSON isn't an answer to the request.
-fn other_shape(failed: &Failed<'_>, head: &Head<'_>) -> Result<Misreading, AllocError> {
-    let (status, expected) = (head.status, success_status(failed.request));
+fn other_shape(ended: &Ended<'_>, head: &Head<'_>) -> Result<Misreading, AllocError> {
+    let (status, expected) = (head.status, success_status(ended.request));
     if status != expected {
         return Ok(Misreading::OtherStatus { status, expected });
     }
     Ok(Misreading::OtherShape {
         status,
-        body: Excerpt::of(failed.alloc, head.rest())?,
+        body: Excerpt::of(ended.alloc, head.rest())?,
     })
 }
 

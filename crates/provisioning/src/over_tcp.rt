@@ -25,7 +25,8 @@ use timed_streams::TimedHandle;
 
 /// Runs the connector against the provider at an address, HOST:PORT. It prints a line for each record as
 /// soon as the record is done, and reports rows that the connector refuses, and older rows, on standard error.
-/// There it also says what the last fault of an unconfirmed record was, and which records wait, as the provider asks.
+/// There it also says what the last fault of an unconfirmed record was, which records wait, as the provider asks, and what
+/// a provider that drops revisions shows of a confirmed record with other values than were asked.
 pub fn push<'a, N: Net + Clock + Eprint, J: Journal, W: Write>(
     rt: &'a N,
     alloc: Global,
@@ -41,12 +42,15 @@ pub fn push<'a, N: Net + Clock + Eprint, J: Journal, W: Write>(
         connector.old connector.new result }
 {
     let lines = Lines { out, stderr: rt };
-    let (carried, _lines) = carry_to(rt, alloc, service, connector, sources, pace, address, lines);
+    let (carried, _lines) = carry_to(
+        rt, alloc, service, connector, sources, pace, address, lines, false,
+    );
     carried
 }
 
 /// The same, but it prints a line only for each record that isn't confirmed, and at the end how many records were
-/// confirmed and unconfirmed, and how many rows were rejected.
+/// confirmed and unconfirmed, and how many rows were rejected. On standard error it says nothing of what is shown of
+/// confirmed records.
 pub fn push_quietly<'a, N: Net + Clock + Eprint, J: Journal, W: Write>(
     rt: &'a N,
     alloc: Global,
@@ -62,11 +66,13 @@ pub fn push_quietly<'a, N: Net + Clock + Eprint, J: Journal, W: Write>(
         connector.old connector.new result }
 {
     let lines = QuietLines::over(Lines { out, stderr: rt }, sources);
-    let (carried, lines) = carry_to(rt, alloc, service, connector, sources, pace, address, lines);
+    let (carried, lines) = carry_to(
+        rt, alloc, service, connector, sources, pace, address, lines, true,
+    );
     concluded(carried, lines)
 }
 
-/// The same, reported by a teller, which it returns.
+/// The same, reported by a teller, which it returns. In a quiet run standard error says nothing of confirmed records.
 fn carry_to<'a, N: Net + Clock + Eprint, J: Journal, T: Hear + Tell + Drop>(
     rt: &'a N,
     alloc: Global,
@@ -76,6 +82,7 @@ fn carry_to<'a, N: Net + Clock + Eprint, J: Journal, T: Hear + Tell + Drop>(
     pace: Pace,
     address: &str,
     teller: T,
+    is_quiet: bool,
 ) -> (Result<Outcome, RunFault>, T)
     ensures { CarriesToldAt ⟦<TimedHandle<'a, N::Stream, N> as Read>⟧.remaining
         ⟦<TimedHandle<'a, N::Stream, N> as Write>⟧.contents J.Journal pace T.heard T.told
@@ -95,6 +102,7 @@ fn carry_to<'a, N: Net + Clock + Eprint, J: Journal, T: Hear + Tell + Drop>(
         teller,
         stderr: rt,
         last: &last,
+        is_quiet,
     };
     let carried = carry_at(
         alloc,

@@ -1,6 +1,6 @@
-//! Runs whose faults are explained.
+//! Runs whose exchanges are explained.
 use crate::dialing::Dial;
-use crate::explaining::Failed;
+use crate::explaining::Ended;
 use crate::explanations::Explanation;
 use crate::keeping::{Explanations, keep, take};
 use crate::offering::{Hear, Judged};
@@ -33,9 +33,9 @@ impl<'a, D: Dial + Drop> Dial for Explaining<'a, D> {
         self.dial.end(reader, writer);
     }
 
-    /// Keeps what the fault was. If memory runs out, nothing is known about it.
-    fn explain(&self, failed: &Failed<'_>) {
-        keep(self.last, failed);
+    /// Keeps what is said of it. If memory runs out, nothing is.
+    fn explain(&self, ended: &Ended<'_>) {
+        keep(self.last, ended);
     }
 
     fn puts_off(&self, name: &RecordName, heard: &Heard) -> bool {
@@ -51,12 +51,25 @@ impl<'a, D: Dial + Drop> Dial for Explaining<'a, D> {
     }
 }
 
-/// Reports by another, and prints on standard error what the fault of an unconfirmed record was.
+/// Reports by another, and prints on standard error what the fault of an unconfirmed record was. Of a confirmed record it
+/// prints there what the provider shows with other values than were asked, unless the run is quiet.
 #[derive(Drop)]
 pub(crate) struct Explained<'a, T: Drop, E> {
     pub teller: T,
     pub stderr: &'a E,
     pub last: &'a Cell<Option<Explanations>>,
+    pub is_quiet: bool,
+}
+
+impl<'a, T: Drop, E> Explained<'a, T, E> {
+    /// Whether what was kept of a record in this state is printed.
+    fn is_printed(&self, standing: &Standing) -> bool {
+        match standing {
+            Standing::Confirmed(_) => !self.is_quiet,
+            Standing::Unconfirmed(fault) => fault.is_some(),
+            Standing::Waits(_) => false,
+        }
+    }
 }
 
 impl<'a, T: Hear + Drop, E: Eprint> Hear for Explained<'a, T, E> {
@@ -72,27 +85,27 @@ impl<'a, T: Tell + Drop, E: Eprint> Tell for Explained<'a, T, E> {
 
     fn tell(&mut self, name: &RecordName, pushed: &Pushed) -> io::Result<()> {
         let told = self.teller.tell(name, pushed);
-        let has_fault = matches!(pushed.standing, Standing::Unconfirmed(Some(_)));
-        tell_last(self.stderr, self.last, name, has_fault);
+        let is_printed = self.is_printed(&pushed.standing);
+        tell_last(self.stderr, self.last, name, is_printed);
         told
     }
 }
 
-/// Prints on standard error what the last fault of a record was, if something was kept of it, and the record is reported
-/// with a fault. Nothing is kept of it from then on.
+/// Prints on standard error what was kept of a record, if anything was, and it is to be printed. Nothing is kept of it from
+/// then on.
 pub fn tell_last<E: Eprint>(
     stderr: &E,
     last: &Cell<Option<Explanations>>,
     name: &RecordName,
-    has_fault: bool,
+    is_printed: bool,
 ) {
     let kept = take(last, name);
-    if let (true, Some(explanation)) = (has_fault, &kept) {
+    if let (true, Some(explanation)) = (is_printed, &kept) {
         report(stderr, name, explanation);
     }
 }
 
-/// Prints what the fault of a record was.
+/// Prints what is said of a record.
 fn report<E: Eprint>(stderr: &E, name: &RecordName, explanation: &Explanation) {
     let (kind, key) = (kind_word(name.kind), name.key.as_str());
     let _ = eprintln!(stderr; "{kind} {key}: {explanation}");

@@ -1,7 +1,7 @@
 //! Streams to a provider in the same program: one thread asks and answers.
 use connection::{Listen, serve_next};
 use provider_core::Provider;
-use provisioning::{Dial, Failed, Heard, Remote};
+use provisioning::{Dial, Ended, Heard, Remote};
 use scim_key::{Base, RecordName};
 use std::alloc::Global;
 use std::cell::RefCell;
@@ -105,8 +105,8 @@ impl<'r, 'p, 'b, N: Net + Clock, L: Listen + Drop, R: StoredRows> Dial
         reader.be_served();
     }
 
-    /// Faults of a provider in this program aren't explained.
-    fn explain(&self, _: &Failed<'_>) {}
+    /// Exchanges with a provider in this program aren't explained.
+    fn explain(&self, _: &Ended<'_>) {}
 
     /// A provider in this program asks for no wait.
     fn puts_off(&self, _: &RecordName, _: &Heard) -> bool {
