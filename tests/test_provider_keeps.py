@@ -3,13 +3,16 @@ import json
 import random
 
 from peers import NO_HITS, Peer, answer, asked, hits, user
-from small_provider import DropsExtension
-from support import NOWHERE, SOURCE, USER, ProgramTest, text
+from small_provider import DropsExtension, SmallProvider
+from support import DEPARTMENTS_HEADER, ENTERPRISE, GROUP, NOWHERE, SOURCE, USER, ProgramTest, text
 
 VERSIONS = ("--provider-keeps", "versions")
+REVISIONS = ("--provider-keeps", "revisions")
+NOTHING_AT_ONCE = ("--provider-keeps", "nothing", "--settle-time", "0")
 ANN, BOB = "ann,1,,,,,active", "bob,1,,,,,active"
 ANN_CONFIRMED, BOB_CONFIRMED = "user ann confirmed 1", "user bob confirmed 1"
 BOB_LEFT, BOB_IS_OUT = "bob,2,,,,,left", "user bob confirmed 2"
+OTHER_VALUES = "{}: the provider shows other values than asked: {}".format
 
 
 class RefusesExtension(DropsExtension):
@@ -96,12 +99,12 @@ class AnswersInChunks(DropsExtension):
         return b"HTTP/1.1 103 Early Hints\r\n\r\n" + b"\r\n".join(framed)
 
 
-class WritesInItsOwnWay(DropsExtension):
-    """It writes each family in capitals."""
+class WritesInItsOwnWay(SmallProvider):
+    """It has one department, and keeps no types of addresses."""
 
     def keep(self, content, id=None):
-        name = content["name"] | {"familyName": content["name"]["familyName"].upper()}
-        return super().keep(content | {"name": name}, id)
+        emails = [{"value": email["value"]} for email in content.get("emails", [])]
+        return super().keep(content | {ENTERPRISE: {"department": "Staff"}, "emails": emails}, id)
 
 
 class ProviderKeepsTest(ProgramTest):
@@ -200,10 +203,56 @@ class ProviderKeepsTest(ProgramTest):
                 errors=["user bob: active is true, and false was asked"],
             )
 
-    def test_another_attribute_that_is_written_in_another_way(self):
-        self.site.write_users("ann,1,,Ann,Lee,,active")
+    def test_values_that_are_written_in_another_way(self):
+        """They are reported at each write of a record, which is confirmed. A quiet push doesn't report them."""
+        rows = "ann,{0},,,,a@x,active,Sales", "bob,{0},,,,,active,Staff", "cid,{0},,,,,left,Sales"
+        ann, cid = OTHER_VALUES("user ann", "department, emails"), OTHER_VALUES("user cid", "department")
+        for options in VERSIONS, NOTHING_AT_ONCE, (*VERSIONS, "--streams", "3"):
+            with self.subTest(options=options), WritesInItsOwnWay() as provider:
+                for revision, words, errors in (1, (), [ann, cid]), (2, (), [ann, cid]), (3, ("--quiet",), ()):
+                    self.site.write_users(*(row.format(revision) for row in rows), header=DEPARTMENTS_HEADER)
+                    confirmed = [f"user {name} confirmed {revision}" for name in ("ann", "bob", "cid")]
+                    lines = ["3 confirmed, 0 unconfirmed, 0 rejected"] if words else confirmed
+                    self.pushes(provider, *lines, errors=errors, options=(*options, *words))
+                    self.pushes(provider, *confirmed, options=options)
+            self.setUp()
+
+    def test_a_provider_that_keeps_revisions_may_write_in_another_way(self):
+        self.site.write_users("ann,1,,,,a@x,active,Sales", header=DEPARTMENTS_HEADER)
         with WritesInItsOwnWay() as provider:
-            self.pushes(provider, ANN_CONFIRMED)
+            self.pushes(provider, ANN_CONFIRMED, options=REVISIONS)
+
+    def test_the_values_of_a_group(self):
+        """The order of members doesn't count."""
+        said = OTHER_VALUES("group crew", "{}").format
+        for changes, errors in [
+            ({}, ()),
+            ({"members": [{"value": "2"}, {"value": "1"}]}, ()),
+            ({"members": [{"value": "1"}]}, [said("members")]),
+            ({"displayName": "Crew", "externalId": "9", "members": []}, [said("displayName, externalId, members")]),
+        ]:
+            members = [{"value": "1"}, {"value": "2"}]
+            crew = {"schemas": [GROUP], "id": "3", "displayName": "crew", "members": members, "meta": {"version": '"v1"'}}
+            shown = user("ann", None, number="1"), user("bob", None, number="2"), crew | changes
+            steps = [step for resource in shown for step in (NO_HITS, answer(201, resource))]
+            self.site.write_users(ANN, BOB)
+            self.site.write_groups("crew,1,ann bob")
+            with self.subTest(changes=changes), Peer(steps) as provider:
+                self.pushes(provider, ANN_CONFIRMED, BOB_CONFIRMED, "group crew confirmed 1", errors=errors)
+            self.setUp()
+
+    def test_the_answer_that_confirms_counts(self):
+        """Neither a fault before it nor what a search shows is said of the record."""
+        self.site.write_users(ANN)
+        other = user("ann", None) | {"externalId": "9"}
+        for steps, errors in [
+            ([answer(500), NO_HITS, answer(201, user("ann", None))], ()),
+            ([answer(500), NO_HITS, answer(201, other)], [OTHER_VALUES("user ann", "externalId")]),
+            ([hits(other), answer(500), answer(200, user("ann", None))], ()),
+        ]:
+            with self.subTest(errors=errors), Peer(steps) as provider:
+                self.pushes(provider, ANN_CONFIRMED, errors=errors)
+            self.site.journal.unlink()
 
     def test_a_stale_version_is_refused_and_read_again(self):
         self.site.write_users(BOB_LEFT)
