@@ -28,6 +28,8 @@ BASE = re.compile(r"http://([^\s/]+)/v2")
 PATH = re.compile(r"(?:/(?:[\w.~!$&'()*+,;=:@-]|%[0-9A-Fa-f]{2})+)+", re.ASCII)
 # A version that If-Match can name
 STRONG = re.compile(r'"[\x21\x23-\x7e\x80-\U0010ffff]*"')
+# An entity tag (RFC 7232 section 2.3), and the most bytes of one that `push` reads
+TAG, TAG_LIMIT = re.compile(f"(?:W/)?{STRONG.pattern}"), 256
 SMALL = str.maketrans(string.ascii_uppercase, string.ascii_lowercase)
 
 
@@ -102,6 +104,12 @@ def is_strong(version):
     return isinstance(version, str) and bool(STRONG.fullmatch(version))
 
 
+def is_tag(version):
+    """Whether `push` takes this for a version."""
+    is_text = isinstance(version, str) and version.isprintable()
+    return is_text and bool(TAG.fullmatch(version)) and len(version.encode()) <= TAG_LIMIT
+
+
 def revision_of(resource):
     """The epoch and the number of a user's revision; None if there is none."""
     source = attribute(resource, SOURCE)
@@ -134,6 +142,14 @@ class Answer:
         with contextlib.suppress(ValueError):
             content = json.loads(self.body)
             return content if isinstance(content, dict) else None
+
+    @property
+    def etag(self):
+        """The version that the field `ETag` states; None if it isn't there once, or isn't an entity tag."""
+        values = self.fields.get_all("ETag") if self.fields else None
+        with contextlib.suppress(UnicodeError):
+            tag = values[0].encode("latin-1").decode() if values and len(values) == 1 else None
+            return tag if is_tag(tag) else None
 
     @property
     def detail(self):

@@ -8,19 +8,21 @@ it prints how to push to this provider: whether the source extension and version
 
 Status: 0 if they are, 1 if not, 2 if the arguments are invalid, 3 if the provider can't be reached.
 """
+import collections
 import secrets
 import shlex
 import sys
 import urllib.parse
 
 from provider_calls import (
-    DEFAULT_HOST, DEFAULT_PATH, ENTERPRISE, SOURCE, USER, Provider, arguments, attribute, found_in, is_strong, name_of,
-    printed, revision_of, version_of,
+    DEFAULT_HOST, DEFAULT_PATH, ENTERPRISE, SOURCE, USER, Provider, arguments, attribute, found_in, is_strong, is_tag,
+    name_of, printed, revision_of, version_of,
 )
 
 MET, NOT_MET, UNTRIED = "met", "not met", "can't be tried"
 NO_USER = UNTRIED, "There is no user to try it with"
 UNNOTICED = "push can't notice it: a late message can switch a leaver on"
+LATER = "That confirms with --provider-keeps versions or nothing. Else the next push confirms: {}"
 DEPARTMENT = "Trials"
 # The families that the user gets at the end, by which it is seen whether a version comes back
 FAMILIES = ("Try", "Try", "Trial", "Try")
@@ -33,9 +35,18 @@ BODY_LIMIT = 8_388_608
 # A creation that is refused with one of these isn't refused for its content
 NOT_FOR_CONTENT = {401, 403, 404, 409, 429}
 
+# A user of ours as an answer shows it: the revision that it should have, the version that is stated, and whether a
+# search shows it
+Shown = collections.namedtuple("Shown", "resource revision version is_found")
+
 
 def is_success(answer):
     return answer.status in range(200, 300)
+
+
+def is_silent(answer, *statuses):
+    """Whether an answer has one of these statuses and no body."""
+    return answer.status in statuses and answer.body == b""
 
 
 class Trial:
@@ -47,9 +58,10 @@ class Trial:
         self.absent = self.groups = self.created = self.found = self.in_capitals = None
         self.twice = self.replaced = self.late = self.after = self.in_epoch = None
         self.answers = []  # all of them
-        self.shown = []  # each user of ours that they showed, and the revision that it should have
+        self.shown = []  # the user as each of them showed it that should have a certain revision
         self.versions = []  # that the user had after the last replacements
         self.users = {}  # by its id, each user of ours as it was shown last
+        self.tags = {}  # by its id, the version that each user of ours has, as far as is known
         self.may_exist = False  # whether a creation was sent
 
     def run(self):
@@ -76,8 +88,7 @@ class Trial:
             if is_success(self.in_epoch):
                 self.note(self.provider.read(id), IN_EPOCH)
         for family in FAMILIES:
-            content = self.content(SECOND, False, family=family)
-            replaced = self.note(self.provider.replace(id, content, self.version()))
+            replaced = self.put(id, self.content(SECOND, False, family=family), self.version())
             self.note(self.provider.read(id))
             self.versions.append(self.version() if is_success(replaced) else None)
 
@@ -112,7 +123,15 @@ class Trial:
         return first
 
     def replace(self, id, revision, active, version):
-        return self.note(self.provider.replace(id, self.content(revision, active), version), revision)
+        return self.put(id, self.content(revision, active), version, revision)
+
+    def put(self, id, content, version, revision=None):
+        answer = self.provider.replace(id, content, version)
+        if is_success(answer):
+            self.tags.pop(id, None)
+            if answer.etag is not None:
+                self.tags[id] = answer.etag
+        return self.note(answer, revision)
 
     # ---- answers
 
@@ -123,10 +142,16 @@ class Trial:
     def note(self, answer, revision=None):
         """Keeps an answer. Each user of ours that it shows should have this revision, if one is given."""
         self.answers.append(answer)
-        for resource in filter(self.is_ours, found_in(answer) or [answer.content]):
-            self.users[attribute(resource, "id")] = resource
+        found = found_in(answer)
+        for resource in filter(self.is_ours, found or [answer.content]):
+            version, id = version_of(resource), attribute(resource, "id")
+            if not found and not is_tag(version):
+                version = answer.etag or version
+            self.users[id] = resource
+            if isinstance(version, str) and version.isprintable():
+                self.tags[id] = version
             if revision and self.is_first(resource):
-                self.shown.append((resource, revision))
+                self.shown.append(Shown(resource, revision, version, bool(found)))
         return answer
 
     @property
@@ -138,9 +163,11 @@ class Trial:
         return attribute(resource, "id") == self.id
 
     def version(self):
-        """The version of the user as it was shown last; None if there is none."""
-        version = version_of(self.users[self.id])
-        return version if isinstance(version, str) and version.isprintable() else None
+        """The version that the user has; None if none is shown."""
+        for ask, what in ((self.provider.read, self.id), (self.provider.search, self.name)):
+            if self.id not in self.tags:
+                self.note(ask(what))
+        return self.tags.setdefault(self.id, None)
 
     def revision_after(self):
         """The revision that the user should have after the late message; None if that wasn't refused."""
@@ -233,7 +260,7 @@ def source_extension(trial):
         return NOT_MET, "A user with it is refused. Nobody gets an account, and leavers keep theirs: C4"
     if not trial.shown:
         return NO_USER
-    revisions = [(revision_of(resource), wanted) for resource, wanted in trial.shown]
+    revisions = [(revision_of(it.resource), it.revision) for it in trial.shown]
     if any(shown is None for shown, _ in revisions):
         return NOT_MET, "The user is shown without its revision. Joiners get an account, and leavers keep it: C1"
     if any(shown != wanted for shown, wanted in revisions if wanted != IN_EPOCH):
@@ -277,16 +304,21 @@ def if_match(trial):
 def version(trial):
     if not trial.shown:
         return NO_USER
-    versions = [version_of(resource) for resource, _ in trial.shown]
-    if None in versions:
-        return NOT_MET, "The user is shown without meta.version. Accounts can't be replaced: C2"
+    found = [it.version for it in trial.shown if it.is_found]
+    versions = [it.version for it in trial.shown if it.version is not None]
+    if None in found or not versions:
+        return NOT_MET, "A search shows the user without meta.version. Accounts can't be replaced: C2"
     other = next((printed(it) for it in versions if not is_strong(it)), None)
     if other is not None and other.startswith("W/"):
         return NOT_MET, f"The version {other} is weak. New records are confirmed, and changed ones may stay unconfirmed"
     if other is not None:
         return NOT_MET, f'The version {other} isn\'t an entity tag, as "1" is. Accounts can\'t be replaced: C2'
-    if trial.replaced.status == 200 and versions[0] == versions[-1]:
+    if is_success(trial.replaced) and versions[0] == versions[-1]:
         return NOT_MET, f"The version stays when the user changes. {UNNOTICED}"
+    alone = [it for it in (trial.created, trial.replaced) if trial.is_ours(it.content)]
+    if not all(is_tag(version_of(it.content)) or it.etag for it in alone):
+        told = "But a creation or a replacement is answered without one"
+        return MET, f"push can name the version that it replaces. {told}. {LATER.format('C2')}"
     return MET, "push can name the version that it replaces"
 
 
@@ -321,15 +353,21 @@ def created_and_replaced(trial):
     if not is_success(trial.created):
         return NOT_MET, f"The creation of a user is answered {trial.created.detail}. Nobody gets an account"
     until = "is unconfirmed until the push after that: K1, K2 or K3"
-    if not trial.shows(trial.created, 201):
-        told = f"A creation is answered {trial.created.detail}, and not 201 with the user"
+    if not trial.shows(trial.created, 201) and not is_silent(trial.created, 201):
+        told = f"A creation is answered {trial.created.detail}, and not 201 with the user or without a body"
         return NOT_MET, f"{told}. A new record {until}"
     if trial.replaced.status >= 400:
         return NOT_MET, f"A replacement is answered {trial.replaced.detail}. Changed records stay unconfirmed"
-    if not trial.shows(trial.replaced, 200):
-        told = f"A replacement is answered {trial.replaced.detail}, and not 200 with the user"
+    if not trial.shows(trial.replaced, 200) and not is_silent(trial.replaced, 200, 204):
+        told = f"A replacement is answered {trial.replaced.detail}, and not 200 with the user or without a body"
         return NOT_MET, f"{told}. A changed record {until}"
-    return MET, "push sees in the answer what became of the user"
+    silent = []
+    if is_silent(trial.created, 201):
+        silent.append("A creation is answered 201 without a body. push then searches for the user. With "
+                      "--provider-keeps versions or nothing, the next push confirms the record")
+    if is_silent(trial.replaced, 200, 204):
+        silent.append(f"A replacement is answered {trial.replaced.status} without a body. {LATER.format('K2')}")
+    return MET, ". ".join(silent) or "push sees in the answer what became of the user"
 
 
 CONDITIONS = {

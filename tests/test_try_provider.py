@@ -181,7 +181,63 @@ class CreatesWithoutShowing(SmallProvider):
         return answer(201)
 
 
+class CreatesWithAnotherBody(SmallProvider):
+    def created(self, id):
+        return answer(201, {"id": id})
+
+
 class ReplacesWith204(SmallProvider):
+    def replaced(self, id):
+        return head(204)
+
+
+class ReplacesWith202(SmallProvider):
+    def replaced(self, id):
+        return answer(202)
+
+
+class ReplacesWithoutShowing(SmallProvider):
+    def replaced(self, id):
+        return answer(200, ETag=self.version(id))
+
+
+class ShowsNothing(CreatesWithoutShowing, ReplacesWith204):
+    pass
+
+
+class DropsAndShowsNothing(DropsExtension, ShowsNothing):
+    pass
+
+
+class AnswersWithoutVersion(SmallProvider):
+    """It lists versions, and shows none in other answers."""
+
+    def alone(self, id):
+        return {}
+
+    def created(self, id):
+        return answer(201, without(self.shown(id), "meta"), **self.alone(id))
+
+    def replaced(self, id):
+        return answer(200, without(self.shown(id), "meta"), **self.alone(id))
+
+    def read(self, id):
+        return answer(200, without(self.shown(id), "meta"), **self.alone(id))
+
+
+class StatesVersions(AnswersWithoutVersion):
+    """It lists versions, and states them in the field `ETag` of other answers."""
+
+    def alone(self, id):
+        return {"ETag": self.version(id)}
+
+
+class StatesVersionsAlone(StatesVersions):
+    def listed(self, id):
+        return without(self.shown(id), "meta")
+
+
+class StatesVersionsAnd204(StatesVersionsAlone, ReplacesWith204):
     def replaced(self, id):
         return head(204)
 
@@ -199,6 +255,7 @@ DROPPED = (
     "not met: source extension. The user is shown without its revision. Joiners get an account, and leavers keep it: C1"
 )
 UNVERSIONED = "can't be tried: new versions. The user wasn't replaced and shown with a version each time"
+UNLISTED = "not met: strong version. A search shows the user without meta.version. Accounts can't be replaced: C2"
 # What is printed in place of `met`, for each provider
 BROKEN = {
     IgnoresFilters: [
@@ -252,7 +309,7 @@ BROKEN = {
     ],
     ShowsNoVersion: [
         "can't be tried: If-Match. The user is shown without a version",
-        "not met: strong version. The user is shown without meta.version. Accounts can't be replaced: C2",
+        UNLISTED,
         UNVERSIONED,
     ],
     ShowsWeakVersions: [
@@ -281,26 +338,56 @@ BROKEN = {
         "stay unconfirmed: K1",
     ],
     CreatesWith200: [
-        "not met: 201 and 200. A creation is answered 200, and not 201 with the user. A new record is unconfirmed "
-        "until the push after that: K1, K2 or K3",
+        "not met: 201 and 200. A creation is answered 200, and not 201 with the user or without a body. A new record "
+        "is unconfirmed until the push after that: K1, K2 or K3",
     ],
-    CreatesWithoutShowing: [
-        "not met: 201 and 200. A creation is answered 201, and not 201 with the user. A new record is unconfirmed "
-        "until the push after that: K1, K2 or K3",
+    CreatesWithAnotherBody: [
+        "not met: 201 and 200. A creation is answered 201, and not 201 with the user or without a body. A new record "
+        "is unconfirmed until the push after that: K1, K2 or K3",
     ],
-    ReplacesWith204: [
-        "not met: 201 and 200. A replacement is answered 204, and not 200 with the user. A changed record is "
-        "unconfirmed until the push after that: K1, K2 or K3",
+    ReplacesWith202: [
+        "not met: 201 and 200. A replacement is answered 202, and not 200 with the user or without a body. A changed "
+        "record is unconfirmed until the push after that: K1, K2 or K3",
     ],
+    CreatesWithoutShowing: [],
+    ReplacesWith204: [],
+    ReplacesWithoutShowing: [],
+    ShowsNothing: [],
+    DropsAndShowsNothing: [DROPPED],
+    AnswersWithoutVersion: [],
+    StatesVersions: [],
+    StatesVersionsAlone: [UNLISTED],
+    StatesVersionsAnd204: [UNLISTED],
 }
 
 # Whom `push` can use by their versions
-BY_VERSIONS = {DropsExtension, RefusesExtension, ListsWithoutExtension, KeepsTheFirstRevision}
+BY_VERSIONS = {
+    DropsExtension, RefusesExtension, ListsWithoutExtension, KeepsTheFirstRevision, DropsAndShowsNothing,
+}
 BY_NOTHING = {
     KeepsVersionsOfEqualContents, MakesVersionsFromContents, IgnoresIfMatch, RefusesVersionsOtherwise, ShowsNoVersion,
-    ShowsWeakVersions, ShowsOneVersion, ShowsNoTag,
+    ShowsWeakVersions, ShowsOneVersion, ShowsNoTag, StatesVersionsAlone, StatesVersionsAnd204,
 }
 USELESS = "don't rely on push with this provider"
+
+LATER = "That confirms with --provider-keeps versions or nothing. Else the next push confirms: {}".format
+SOUGHT = (
+    "A creation is answered 201 without a body. push then searches for the user. With --provider-keeps versions or "
+    "nothing, the next push confirms the record"
+)
+SEES, NAMES_IT = "push sees in the answer what became of the user", "push can name the version that it replaces"
+# What is said of the condition `201 and 200`, and of `strong version`, where both are met
+MET = {
+    SmallProvider: (SEES, NAMES_IT),
+    CreatesWithoutShowing: (SOUGHT, NAMES_IT),
+    ReplacesWith204: (f"A replacement is answered 204 without a body. {LATER('K2')}", NAMES_IT),
+    ReplacesWithoutShowing: (f"A replacement is answered 200 without a body. {LATER('K2')}", NAMES_IT),
+    ShowsNothing: (f"{SOUGHT}. A replacement is answered 204 without a body. {LATER('K2')}", NAMES_IT),
+    AnswersWithoutVersion: (
+        SEES, f"{NAMES_IT}. But a creation or a replacement is answered without one. {LATER('C2')}",
+    ),
+    StatesVersions: (SEES, NAMES_IT),
+}
 
 JOINS, LEAVES = "bob,1,,,,,active", "bob,2,,,,,left"
 # What push prints of bob, who joins and then leaves, at a provider for which the tool says so
@@ -320,9 +407,23 @@ PUSHES = {
     ShowsNoTag: [(JOINS, "unconfirmed C2")],
     SendsChunks: [(JOINS, "confirmed 1"), (LEAVES, "confirmed 2")],
     CreatesWith200: [(JOINS, "unconfirmed K3"), (JOINS, "confirmed 1")],
-    CreatesWithoutShowing: [(JOINS, "unconfirmed K2"), (JOINS, "confirmed 1")],
+    CreatesWithoutShowing: [(JOINS, "confirmed 1"), (LEAVES, "confirmed 2")],
+    CreatesWithAnotherBody: [(JOINS, "unconfirmed K3"), (JOINS, "confirmed 1")],
+    ReplacesWith202: [(JOINS, "confirmed 1"), (LEAVES, "unconfirmed K2"), (LEAVES, "confirmed 2")],
     ReplacesWith204: [(JOINS, "confirmed 1"), (LEAVES, "unconfirmed K2"), (LEAVES, "confirmed 2")],
+    ReplacesWithoutShowing: [(JOINS, "confirmed 1"), (LEAVES, "unconfirmed K2"), (LEAVES, "confirmed 2")],
+    AnswersWithoutVersion: [
+        (JOINS, "unconfirmed C2"), (JOINS, "confirmed 1"), (LEAVES, "unconfirmed C2"), (LEAVES, "confirmed 2"),
+    ],
+    StatesVersions: [(JOINS, "confirmed 1"), (LEAVES, "confirmed 2")],
+    StatesVersionsAlone: [(JOINS, "confirmed 1"), (LEAVES, "unconfirmed C2")],
     RefusesUsers: [(JOINS, "unconfirmed C4")],
+}
+# Likewise with the option that the tool prints
+PUSHES_BY_OPTION = {
+    DropsAndShowsNothing: [(JOINS, "unconfirmed -"), (JOINS, "confirmed 1"), (LEAVES, "confirmed 2")],
+    StatesVersionsAlone: [(JOINS, "confirmed 1"), (LEAVES, "confirmed 2")],
+    StatesVersionsAnd204: [(JOINS, "confirmed 1"), (LEAVES, "confirmed 2")],
 }
 
 
@@ -371,16 +472,30 @@ class TryProviderTest(ProgramTest):
                 use = USELESS if lines and not keeps else self.use_of(provider.address, *options)
                 self.assert_left_inactive(provider, self.assert_tells(run, *lines, use=use))
 
+    def test_what_is_said_of_other_answers(self):
+        for kind, (said, said_of_versions) in MET.items():
+            with self.subTest(kind.__name__), kind(ANN) as provider:
+                lines = try_provider("--to", provider.address).lines
+                self.assertEqual(lines[NAMES.index("201 and 200")], f"met: 201 and 200. {said}")
+                self.assertEqual(lines[NAMES.index("strong version")], f"met: strong version. {said_of_versions}")
+
+    def assert_pushes(self, kind, pushes, *options):
+        """Pushes of these rows print this of bob."""
+        with kind(ANN) as provider:
+            self.site = Site(pathlib.Path(tempfile.mkdtemp(dir=self.folder)))
+            for row, becomes in pushes:
+                header = DEPARTMENTS_HEADER if row.count(",") == 7 else USERS_HEADER
+                self.site.write_users(row, header=header)
+                with self.subTest(kind.__name__, row=row):
+                    status = 0 if becomes.startswith("confirmed") else 1
+                    run = self.site.push(provider.address, *options)
+                    self.assert_prints(run, f"user bob {becomes}", status=status)
+
     def test_push_prints_what_the_tool_says(self):
         for kind, pushes in PUSHES.items():
-            with kind(ANN) as provider:
-                self.site = Site(pathlib.Path(tempfile.mkdtemp(dir=self.folder)))
-                for row, becomes in pushes:
-                    header = DEPARTMENTS_HEADER if row.count(",") == 7 else USERS_HEADER
-                    self.site.write_users(row, header=header)
-                    with self.subTest(kind.__name__, row=row):
-                        status = 0 if becomes.startswith("confirmed") else 1
-                        self.assert_prints(self.site.push(provider.address), f"user bob {becomes}", status=status)
+            self.assert_pushes(kind, pushes)
+        for kind, pushes in PUSHES_BY_OPTION.items():
+            self.assert_pushes(kind, pushes, "--provider-keeps", "versions" if kind in BY_VERSIONS else "nothing")
 
     def test_epochs(self):
         class RefusesEpochs(SmallProvider):
