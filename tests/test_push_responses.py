@@ -45,8 +45,9 @@ RESOURCES = [
         "K3",
     ),
 ]
-# Bodies without a resource, and the code
-NO_RESOURCES = [("[]", "K3"), ("null", "K3"), ('{"id":"x"', "K2"), ("", "K2")]
+# Bodies without a resource, and what becomes of a creation and of a replacement. After a creation without a body the name
+# is taken; a replacement that carries a revision waits to see it
+NO_RESOURCES = [("[]", "K3", "K3"), ("null", "K3", "K3"), ('{"id":"x"', "K2", "K2"), (" ", "K2", "K2"), ("", AGAIN, "K2")]
 
 # What is answered: the requests, the status, the body (None: a valid one), and what becomes of it
 STATUSES = [
@@ -149,9 +150,9 @@ class ResponsesTest(ResponseTest):
             self.assert_read(REPLACEMENT, said("200 Fine", body), becomes, known)
 
     def test_bodies_without_a_resource(self):
-        for body, code in NO_RESOURCES:
-            self.assert_read(CREATION, said("201 Created", body), code)
-            self.assert_read(REPLACEMENT, said("200 OK", body), code)
+        for body, created, replaced in NO_RESOURCES:
+            self.assert_read(CREATION, said("201 Created", body), created)
+            self.assert_read(REPLACEMENT, said("200 OK", body), replaced)
 
     def test_statuses(self):
         for asks, status, body, becomes in STATUSES:
