@@ -42,9 +42,7 @@ pub fn push<'a, N: Net + Clock + Eprint, J: Journal, W: Write>(
         connector.old connector.new result }
 {
     let lines = Lines { out, stderr: rt };
-    let (carried, _lines) = carry_to(
-        rt, alloc, service, connector, sources, pace, address, lines, false,
-    );
+    let (carried, _lines) = carry_to(rt, alloc, service, connector, sources, pace, address, lines);
     carried
 }
 
@@ -66,13 +64,11 @@ pub fn push_quietly<'a, N: Net + Clock + Eprint, J: Journal, W: Write>(
         connector.old connector.new result }
 {
     let lines = QuietLines::over(Lines { out, stderr: rt }, sources);
-    let (carried, lines) = carry_to(
-        rt, alloc, service, connector, sources, pace, address, lines, true,
-    );
+    let (carried, lines) = carry_to(rt, alloc, service, connector, sources, pace, address, lines);
     concluded(carried, lines)
 }
 
-/// The same, reported by a teller, which it returns. In a quiet run standard error says nothing of confirmed records.
+/// The same, reported by a teller, which it returns.
 fn carry_to<'a, N: Net + Clock + Eprint, J: Journal, T: Hear + Tell + Drop>(
     rt: &'a N,
     alloc: Global,
@@ -82,7 +78,6 @@ fn carry_to<'a, N: Net + Clock + Eprint, J: Journal, T: Hear + Tell + Drop>(
     pace: Pace,
     address: &str,
     teller: T,
-    is_quiet: bool,
 ) -> (Result<Outcome, RunFault>, T)
     ensures { CarriesToldAt ⟦<TimedHandle<'a, N::Stream, N> as Read>⟧.remaining
         ⟦<TimedHandle<'a, N::Stream, N> as Write>⟧.contents J.Journal pace T.heard T.told
@@ -102,7 +97,6 @@ fn carry_to<'a, N: Net + Clock + Eprint, J: Journal, T: Hear + Tell + Drop>(
         teller,
         stderr: rt,
         last: &last,
-        is_quiet,
     };
     let carried = carry_at(
         alloc,

@@ -136,6 +136,10 @@ impl<'a, W: Write + Drop, E: Eprint> Tell for QuietLines<'a, W, E> {
     /// Which records the bytes of the lines are of isn't said; each line that is added is, below.
     ghost told = { λ _. None };
 
+    fn is_quiet(&self) -> bool {
+        true
+    }
+
     fn tell(&mut self, name: &RecordName, pushed: &Pushed) -> io::Result<()>
         ensures tells { OnOk result (Tells None None ((name.now, pushed.now) ∷ [])) }
         ensures counts { self.new.counts ≡ with_record self.old.counts pushed.now.standing }

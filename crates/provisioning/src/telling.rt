@@ -14,4 +14,9 @@ pub trait Tell {
     fn tell(&mut self, name: &RecordName, pushed: &Pushed) -> io::Result<()>
         ensures { OnOk result
             (Tells (told self.old) (told self.new) ((name.now, pushed.now) ∷ [])) };
+
+    /// Whether standard error says nothing of a confirmed record.
+    fn is_quiet(&self) -> bool {
+        false
+    }
 }

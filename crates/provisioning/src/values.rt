@@ -1,14 +1,16 @@
 //! What a provider shows with another value than was asked.
 use crate::labels::aspect_label;
 use comparing::{ASPECTS, Aspect, agree};
+use scim_key::Kind;
 use scim_resource::Content;
 use std::alloc::{AllocError, Global};
 use std::fmt;
 
-/// What a provider shows with other values than were asked, by the words for it: at least one, in the order of printing.
+/// What a provider shows with other values than were asked: at least one aspect, in the order of printing.
 #[derive(Drop)]
 pub struct OtherValues {
-    labels: Vec<&'static str>,
+    kind: Kind,
+    aspects: Vec<Aspect>,
 }
 
 impl OtherValues {
@@ -18,16 +20,17 @@ impl OtherValues {
         asked: &Content,
         shown: &Content,
     ) -> Result<Option<OtherValues>, AllocError> {
-        let mut labels = Vec::new(alloc);
+        let kind = asked.kind();
+        let mut aspects = Vec::new(alloc);
         for aspect in &ASPECTS {
             if !is_as_asked(asked, shown, *aspect) {
-                labels.push(aspect_label(asked.kind(), *aspect))?;
+                aspects.push(*aspect)?;
             }
         }
-        Ok(if labels.is_empty() {
+        Ok(if aspects.is_empty() {
             None
         } else {
-            Some(OtherValues { labels })
+            Some(OtherValues { kind, aspects })
         })
     }
 }
@@ -41,7 +44,8 @@ impl fmt::Display for OtherValues {
     fn fmt<W: fmt::Write>(&self, f: &mut fmt::Formatter<W>) -> fmt::Result {
         f.write_str("the provider shows other values than asked")?;
         let mut separator = ": ";
-        for label in &self.labels {
+        for aspect in &self.aspects {
+            let label = aspect_label(self.kind, *aspect);
             write!(f, "{separator}{label}")?;
             separator = ", ";
         }

@@ -52,24 +52,12 @@ impl<'a, D: Dial + Drop> Dial for Explaining<'a, D> {
 }
 
 /// Reports by another, and prints on standard error what the fault of an unconfirmed record was. Of a confirmed record it
-/// prints there what the provider shows with other values than were asked, unless the run is quiet.
+/// prints there what the provider shows with other values than were asked, unless the other is quiet.
 #[derive(Drop)]
 pub(crate) struct Explained<'a, T: Drop, E> {
     pub teller: T,
     pub stderr: &'a E,
     pub last: &'a Cell<Option<Explanations>>,
-    pub is_quiet: bool,
-}
-
-impl<'a, T: Drop, E> Explained<'a, T, E> {
-    /// Whether what was kept of a record in this state is printed.
-    fn is_printed(&self, standing: &Standing) -> bool {
-        match standing {
-            Standing::Confirmed(_) => !self.is_quiet,
-            Standing::Unconfirmed(fault) => fault.is_some(),
-            Standing::Waits(_) => false,
-        }
-    }
 }
 
 impl<'a, T: Hear + Drop, E: Eprint> Hear for Explained<'a, T, E> {
@@ -85,9 +73,18 @@ impl<'a, T: Tell + Drop, E: Eprint> Tell for Explained<'a, T, E> {
 
     fn tell(&mut self, name: &RecordName, pushed: &Pushed) -> io::Result<()> {
         let told = self.teller.tell(name, pushed);
-        let is_printed = self.is_printed(&pushed.standing);
+        let is_printed = is_printed(&self.teller, &pushed.standing);
         tell_last(self.stderr, self.last, name, is_printed);
         told
+    }
+}
+
+/// Whether what was kept of a record in this state is printed.
+fn is_printed<T: Tell>(teller: &T, standing: &Standing) -> bool {
+    match standing {
+        Standing::Confirmed(_) => !teller.is_quiet(),
+        Standing::Unconfirmed(fault) => fault.is_some(),
+        Standing::Waits(_) => false,
     }
 }
 
