@@ -1,12 +1,11 @@
 """`push --provider-keeps nothing`: a provider that shows no versions, or uses one twice, or obeys no condition."""
-import random
 import time
 
 from peers import answer
 from small_provider import DropsExtension, HasNoVersions
-from support import NOWHERE, USER, ProgramTest, text
+from support import NOWHERE, USER
 from test_provider_keeps import (
-    AnswersInChunks, DelaysAChange, LosesAndDelays, LosesAnswers, RefusesExtension, StaysActive,
+    AnswersInChunks, DelaysAChange, KindTest, LosesAndDelays, LosesAnswers, RefusesExtension, StaysActive,
 )
 
 NOTHING = ("--provider-keeps", "nothing")
@@ -60,7 +59,7 @@ class LosesTheFirst(HasNoVersions):
 class DelaysWithinARun(HasNoVersions, LosesAndDelays):
     """What is late is carried out before the next push."""
 
-    def arrives(self):
+    def push_ended(self):
         waited, self.late = self.late, []
         for lines, body in waited:
             DropsExtension.respond(self, lines, body)
@@ -77,24 +76,13 @@ class AnswersCreationsWith(HasNoVersions):
         return self.said.pop(0) if self.said else super().created(id)
 
 
-class NothingKeptTest(ProgramTest):
-    def pushes(self, provider, *lines, errors=(), status=0, options=NOTHING):
-        """A push prints exactly these lines, and these on standard error."""
-        run = self.site.push(provider.address, *options)
-        self.assertEqual((run.output.decode(), run.errors, run.status), (text(*lines), text(*errors), status))
+class NothingKeptTest(KindTest):
+    options = NOTHING
 
     def test_leavers_end_inactive(self):
         for kind in HasNoVersions, HashesContents, RefusesUnversioned, ChunksWithoutVersion:
             with self.subTest(kind=kind.__name__), kind() as provider:
-                self.site.write_users(ANN, BOB)
-                self.pushes(provider, ANN_CONFIRMED, BOB_CONFIRMED)
-                self.site.write_users(ANN, BOB_LEFT)
-                self.pushes(provider, ANN_CONFIRMED, BOB_IS_OUT)
-                before = len(provider.requests)
-                self.pushes(provider, ANN_CONFIRMED, BOB_IS_OUT)
-                self.assertEqual(len(provider.requests), before)
-                shown = {user["userName"]: user["active"] for user in provider.users.values()}
-                self.assertEqual(shown, {"ann": True, "bob": False})
+                self.join_and_leave(provider)
             self.setUp()
 
     def test_a_replacement_has_no_condition(self):
@@ -142,25 +130,8 @@ class NothingKeptTest(ProgramTest):
         """If what is late is carried out before the next push, whatever is confirmed stays; and in the end all is."""
         for seed in range(30):
             with self.subTest(seed=seed), DelaysWithinARun(seed) as provider:
-                wanted, draw = {}, random.Random(seed)
-                for revision in range(1, 13):
-                    wanted[draw.choice(("ann", "bob", "cid"))] = revision, draw.choice(("active", "left"))
-                    self.push_and_look(provider, wanted)
-                provider.is_troubled = False
-                self.assertEqual(self.push_and_look(provider, wanted), len(wanted))
-                self.assertEqual(len(provider.users), len(wanted))
+                self.trouble(provider, seed, "--settle-time", "0")
             self.setUp()
-
-    def push_and_look(self, provider, wanted):
-        """A push of these revisions and states, and then what is late: how many are confirmed, which stay as wanted."""
-        self.site.write_users(*(f"{name},{revision},,,,,{state}" for name, (revision, state) in wanted.items()))
-        run = self.site.push(provider.address, *AT_ONCE)
-        provider.arrives()
-        held = {user["userName"]: user["active"] for user in provider.users.values()}
-        confirmed = [line.split() for line in run.output.decode().splitlines() if " confirmed " in line]
-        for _, name, _, revision in confirmed:
-            self.assertEqual((int(revision), held[name]), (wanted[name][0], wanted[name][1] == "active"))
-        return len(confirmed)
 
     def test_a_change_that_is_carried_out_after_the_next_one(self):
         """Nothing refuses it: a leaver is active again. So push waits until nothing is under way."""

@@ -51,6 +51,9 @@ class LosesAndDelays(DropsExtension):
         said = super().respond(lines, body) if fate >= 0.25 else b""
         return said if fate >= 0.4 else b""
 
+    def push_ended(self):
+        pass
+
 
 class DelaysAChange(DropsExtension):
     """It gets the first replacement late: when it `arrives`."""
@@ -107,10 +110,14 @@ class WritesInItsOwnWay(SmallProvider):
         return super().keep(content | {ENTERPRISE: {"department": "Staff"}, "emails": emails}, id)
 
 
-class ProviderKeepsTest(ProgramTest):
-    def pushes(self, provider, *lines, errors=(), status=0, options=VERSIONS):
+class KindTest(ProgramTest):
+    """Pushes to providers of one kind, with the options that name it."""
+
+    options = ()
+
+    def pushes(self, provider, *lines, errors=(), status=0, options=None):
         """A push prints exactly these lines, and these on standard error."""
-        run = self.site.push(provider.address, *options)
+        run = self.site.push(provider.address, *(self.options if options is None else options))
         self.assertEqual((run.output.decode(), run.errors, run.status), (text(*lines), text(*errors), status))
 
     def join_and_leave(self, provider):
@@ -124,6 +131,31 @@ class ProviderKeepsTest(ProgramTest):
         self.assertEqual(len(provider.requests), before)
         shown = {user["userName"]: user["active"] for user in provider.users.values()}
         self.assertEqual(shown, {"ann": True, "bob": False})
+
+    def trouble(self, provider, seed, *options):
+        """Pushes of random changes to a provider that loses and delays; then nothing is lost, and a push confirms all."""
+        wanted, draw = {}, random.Random(seed)
+        for revision in range(1, 13):
+            wanted[draw.choice(("ann", "bob", "cid"))] = revision, draw.choice(("active", "left"))
+            self.push_and_look(provider, wanted, *options)
+        provider.is_troubled = False
+        self.assertEqual(self.push_and_look(provider, wanted, *options), len(wanted))
+        self.assertEqual(len(provider.users), len(wanted))
+
+    def push_and_look(self, provider, wanted, *options):
+        """A push of these revisions and states: how many are confirmed, which the provider has as they are wanted."""
+        self.site.write_users(*(f"{name},{revision},,,,,{state}" for name, (revision, state) in wanted.items()))
+        run = self.site.push(provider.address, *self.options, *options)
+        provider.push_ended()
+        held = {user["userName"]: user["active"] for user in provider.users.values()}
+        confirmed = [line.split() for line in run.output.decode().splitlines() if " confirmed " in line]
+        for _, name, _, revision in confirmed:
+            self.assertEqual((int(revision), held[name]), (wanted[name][0], wanted[name][1] == "active"))
+        return len(confirmed)
+
+
+class ProviderKeepsTest(KindTest):
+    options = VERSIONS
 
     def test_leavers_end_inactive(self):
         for kind in DropsExtension, RefusesExtension, WeakVersions, AnswersInChunks:
@@ -162,24 +194,8 @@ class ProviderKeepsTest(ProgramTest):
         """Whatever is confirmed is held when a push ends; and once nothing is lost, a push confirms all."""
         for seed in range(30):
             with self.subTest(seed=seed), LosesAndDelays(seed) as provider:
-                wanted, draw = {}, random.Random(seed)
-                for revision in range(1, 13):
-                    wanted[draw.choice(("ann", "bob", "cid"))] = revision, draw.choice(("active", "left"))
-                    self.push_and_look(provider, wanted)
-                provider.is_troubled = False
-                self.assertEqual(self.push_and_look(provider, wanted), len(wanted))
-                self.assertEqual(len(provider.users), len(wanted))
+                self.trouble(provider, seed)
             self.setUp()
-
-    def push_and_look(self, provider, wanted):
-        """A push of these revisions and states: how many are confirmed, which the provider has as they are wanted."""
-        self.site.write_users(*(f"{name},{revision},,,,,{state}" for name, (revision, state) in wanted.items()))
-        run = self.site.push(provider.address, *VERSIONS)
-        held = {user["userName"]: user["active"] for user in provider.users.values()}
-        confirmed = [line.split() for line in run.output.decode().splitlines() if " confirmed " in line]
-        for _, name, _, revision in confirmed:
-            self.assertEqual((int(revision), held[name]), (wanted[name][0], wanted[name][1] == "active"))
-        return len(confirmed)
 
     def test_a_late_change_and_versions_that_come_back(self):
         """A late change is refused, unless the version that it names has come back: then a leaver is active again. So such
