@@ -118,7 +118,7 @@ never_back {keeps} {ours} w v inv_w inv_v all s holds =
     } in
     (row_of (suc has.0) f, (has.0, row_here 1 (suc has.0) v.entries has.0 f (omega arith) at), later)
 
-headline_now : {keeps : Keeps} {ours : Names} (w v : World) → InvariantAt keeps ours w → InvariantAt keeps ours v → AllGoOn w.entries v.entries → HeadlineAmong ours w v
+pub headline_now : {keeps : Keeps} {ours : Names} (w v : World) → InvariantAt keeps ours w → InvariantAt keeps ours v → AllGoOn w.entries v.entries → HeadlineAmong ours w v
 headline_now w v inv_w inv_v all = record {
   one_per_name = one_per_name w inv_w;
   its_image = its_image w inv_w;
@@ -127,7 +127,7 @@ headline_now w v inv_w inv_v all = record {
 }
 
 -- what an early part does, others leave alone too
-apart_early : (ours : Names) (early late : List Act) → KeepsApart ours (early ++ late) → KeepsApart ours early
+pub apart_early : (ours : Names) (early late : List Act) → KeepsApart ours (early ++ late) → KeepsApart ours early
 apart_early ours [] late apart = tt
 apart_early ours (act ∷ early) late apart = (apart.0, apart_early ours early late apart.1)
 

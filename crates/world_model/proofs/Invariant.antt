@@ -312,7 +312,7 @@ pub always_inv_among : (ours : Names) (all : List Act) → KeepsApart ours all �
 always_inv_among ours all apart = among_inv empty all apart (none_inv ours)
 
 -- with each kind of provider
-act_inv_at : (keeps : Keeps) {ours : Names} (w : World) (act : Act) → IsApart ours act → InvariantAt keeps ours w → InvariantAt keeps ours (acts_at keeps w act)
+pub act_inv_at : (keeps : Keeps) {ours : Names} (w : World) (act : Act) → IsApart ours act → InvariantAt keeps ours w → InvariantAt keeps ours (acts_at keeps w act)
 act_inv_at keeps w (Ours event) its inv = of_ours_inv_at keeps w event its inv
 act_inv_at keeps {ours} w (Theirs request) alone inv =
     step_inv w request inv (if_alone_at keeps ours w.history w.entries request alone) (alone_made ours w.history w.book request alone)

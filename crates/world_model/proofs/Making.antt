@@ -133,17 +133,21 @@ sent_made history es book messages message new all = record {
 abbrev pub WritesMade : Names → History → Book → Request → Type 0
 WritesMade ours history book request = (content : Content) → request_content request ≡ Some content → ours (content_name content) ≡ true → IsMade history book (content_name content) content
 
+-- who leaves our records alone writes none of them
+pub writes_none : (ours : Names) (request : Request) → LeavesAlone ours request → (content : Content) → request_content request ≡ Some content → ours (content_name content) ≡ true → ⊥
+writes_none ours (Create c) alone content is mine =
+    let same : c ≡ content = cc in
+    let clash : false ≡ true = sym alone ∙ ap (λ (x : Content). ours (content_name x)) same ∙ mine in
+    absurd (cc)
+writes_none ours (Retrieve kind id m n) alone content is mine = absurd (cc)
+writes_none ours (Search kind wanted start count) alone content is mine = absurd (cc)
+writes_none ours (Replace id c m n) alone content is mine =
+    let same : c ≡ content = cc in
+    let clash : false ≡ true = sym alone ∙ ap (λ (x : Content). ours (content_name x)) same ∙ mine in
+    absurd (cc)
+
 pub alone_made : (ours : Names) (history : History) (book : Book) (request : Request) → LeavesAlone ours request → WritesMade ours history book request
-alone_made ours history book (Create c) alone content is mine =
-    let same : c ≡ content = cc in
-    let clash : false ≡ true = sym alone ∙ ap (λ (x : Content). ours (content_name x)) same ∙ mine in
-    absurd (cc)
-alone_made ours history book (Retrieve kind id m n) alone content is mine = absurd (cc)
-alone_made ours history book (Search kind wanted start count) alone content is mine = absurd (cc)
-alone_made ours history book (Replace id c m n) alone content is mine =
-    let same : c ≡ content = cc in
-    let clash : false ≡ true = sym alone ∙ ap (λ (x : Content). ours (content_name x)) same ∙ mine in
-    absurd (cc)
+alone_made ours history book request alone content is mine = absurd (writes_none ours request alone content is mine)
 
 abbrev Held : Names → History → List Entry → Book → Type 0
 Held ours history es book = (e : Entry) (content : Content) → Has es e → ours e.name ≡ true → Has (story e) content → IsMade history book e.name content

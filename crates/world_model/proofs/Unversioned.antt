@@ -1,5 +1,6 @@
 -- The laws at a provider without versions.
-use Rattle.std.proofs.Common.{◌≡◌, ℕ, List, [], ◌∷◌, ◌++◌, Option, Some, None, refl, sym, ◌∙◌, subst}
+use Rattle.std.proofs.Common.{◌≡◌, ℕ, List, [], ◌∷◌, ◌++◌, map, Option, Some, None, refl, ap, sym, ◌∙◌, subst}
+use Rattle.std.proofs.lemmas.List.{map-append}
 use Rattle.scim_key.specs.declared.records.RecordName.{RecordName}
 use Rattle.scim_message.specs.Messages.{unconditional}
 use Rattle.provider_core.specs.Stories.{Entry, step}
@@ -12,13 +13,15 @@ use Rattle.connector_core.specs.declared.knowledge.Seen.TheVariants.{Unknown, Ab
 use Rattle.world_model.specs.World.{World, Message, Asked, Answered, Event, Changes, Sends, Delivers, Cuts, Restarts_provider, Restarts_connector, Doubts, message_at, empty}
 use Rattle.world_model.specs.Safe.{Onward}
 use Rattle.world_model.specs.Providers.{SeenTrulyAt}
-use Rattle.world_model.specs.Invariant.{Follows}
-use Rattle.world_model.specs.Unversioned.{KeepsOrder, KnownTrulyWithoutVersions, SafeWithoutVersions, SeenTrulyWithoutVersions, delivers_without_versions, happens_without_versions, run_without_versions, taken_for, AlwaysOnwardWithoutVersions, AlwaysSafeWithoutVersions, HeadlineHoldsWithoutVersions, JudgesBySourceWithoutVersions}
-use Rattle.world_model.proofs.Headlines.{headline_of}
+use Rattle.world_model.specs.Invariant.{all_names, Follows}
+use Rattle.world_model.specs.Others.{Act, Ours, Theirs, KeepsApart, HeadlineAmong}
+use Rattle.world_model.specs.Unversioned.{KeepsOrderAmong, KnownTrulyWithoutVersions, SafeWithoutVersions, SeenTrulyWithoutVersions, acts_without_versions, delivers_without_versions, happens_without_versions, run_without_versions, run_without_versions_among, taken_for, AlwaysOnwardWithoutVersions, AlwaysOnwardWithoutVersionsAmong, AlwaysSafeWithoutVersions, HeadlineHoldsWithoutVersions, HeadlineHoldsWithoutVersionsAmong, JudgesBySourceWithoutVersions}
+use Rattle.world_model.proofs.Headlines.{apart_early, headline_now}
 use Rattle.world_model.proofs.Judging.{event_follows_at, judged_by_source, learn_keeps}
-use Rattle.world_model.proofs.Onwards.{and_on, delivers_on_at, event_on_at, here_still, none_falls, stays}
+use Rattle.world_model.proofs.Onwards.{act_on as act_on_among, and_on, delivers_on_at, event_on_at, here_still, none_falls, stays}
+use Rattle.world_model.proofs.Others.{without_others}
 use Rattle.world_model.proofs.Safety.{inactive, known_truly}
-use Rattle.world_model.proofs.UnversionedInvariant.{InvariantWithoutVersions, always_without_versions, follows_history, tagged, tagged_known}
+use Rattle.world_model.proofs.UnversionedInvariant.{InvariantWithoutVersions, always_without_versions, always_without_versions_among, follows_history, order_alone, runs_alone, tagged, tagged_known}
 use Rattle.world_model.proofs.UnversionedLearning.{retagged, under_tag}
 
 -- ---- in whatever order requests arrive
@@ -44,16 +47,33 @@ event_on w Restarts_provider = event_on_at Versions w Restarts_provider
 event_on w Restarts_connector = event_on_at Versions w Restarts_connector
 event_on w (Doubts name) = event_on_at Versions w (Doubts name)
 
-run_on : (w : World) (events : List Event) → Onward w (run_without_versions w events)
-run_on w [] = here_still w
-run_on w (event ∷ events) = and_on w (happens_without_versions w event) (run_without_versions (happens_without_versions w event) events) (event_on w event) (run_on (happens_without_versions w event) events)
+act_on : (w : World) (act : Act) → Onward w (acts_without_versions w act)
+act_on w (Ours event) = event_on w event
+act_on w (Theirs request) = act_on_among w (Theirs (unconditional request))
 
-run-append : (w : World) (early late : List Event) → run_without_versions w (early ++ late) ≡ run_without_versions (run_without_versions w early) late
-run-append w [] late = refl
-run-append w (event ∷ early) late = run-append (happens_without_versions w event) early late
+among_on : (w : World) (later : List Act) → Onward w (run_without_versions_among w later)
+among_on w [] = here_still w
+among_on w (act ∷ later) = and_on w (acts_without_versions w act) (run_without_versions_among (acts_without_versions w act) later) (act_on w act) (among_on (acts_without_versions w act) later)
+
+among-append : (w : World) (early late : List Act) → run_without_versions_among w (early ++ late) ≡ run_without_versions_among (run_without_versions_among w early) late
+among-append w [] late = refl
+among-append w (act ∷ early) late = among-append (acts_without_versions w act) early late
+
+pub always_onward_among : AlwaysOnwardWithoutVersionsAmong
+always_onward_among early late =
+    subst (Onward (run_without_versions_among empty early)) (sym (among-append empty early late)) (among_on (run_without_versions_among empty early) late)
+
+-- without others, what is true between two moments of acts is true between two moments of events
+between : (P : World → World → Type 0) (early late : List Event)
+    → P (run_without_versions_among empty (map Ours early)) (run_without_versions_among empty (map Ours early ++ map Ours late))
+    → P (run_without_versions empty early) (run_without_versions empty (early ++ late))
+between P early late holds =
+    let same : run_without_versions_among empty (map Ours early ++ map Ours late) ≡ run_without_versions empty (early ++ late) =
+    ap (run_without_versions_among empty) (sym (map-append Ours early late)) ∙ runs_alone empty (early ++ late) in
+    subst (P (run_without_versions empty early)) same (subst (λ (u : World). P u (run_without_versions_among empty (map Ours early ++ map Ours late))) (runs_alone empty early) holds)
 
 pub always_onward : AlwaysOnwardWithoutVersions
-always_onward early late = subst (Onward (run_without_versions empty early)) (sym (run-append empty early late)) (run_on (run_without_versions empty early) late)
+always_onward early late = between Onward early late (always_onward_among (map Ours early) (map Ours late))
 
 delivers_follows : (w : World) (o : Option Message) → Follows w.book w.history → Follows (delivers_without_versions w o).book (delivers_without_versions w o).history
 delivers_follows w None follows = follows
@@ -83,7 +103,7 @@ seen_truly es name tag Unknown truly = tt
 seen_truly es name tag Absent truly = tt
 seen_truly es name tag (At id other revision) truly = (tag, truly)
 
-module _ (w : World) (i : InvariantWithoutVersions w) where
+module _ (w : World) (i : InvariantWithoutVersions all_names w) where
   known_without_versions : (name : RecordName) (known : Known) → w.book name ≡ Some known → KnownTrulyWithoutVersions w.entries name known
   known_without_versions name known in_book =
       let truly = known_truly (tagged i.tags w) i.inv name (retagged (i.tags name) known) (tagged_known w i name known in_book) in
@@ -104,20 +124,27 @@ module _ (w : World) (i : InvariantWithoutVersions w) where
 pub always_safe : AlwaysSafeWithoutVersions
 always_safe events order = safe_now (run_without_versions empty events) (always_without_versions events order)
 
-order_early : (w : World) (early late : List Event) → KeepsOrder w (early ++ late) → KeepsOrder w early
-order_early w [] late order = tt
-order_early w (event ∷ early) late order = (order.0, order_early (happens_without_versions w event) early late order.1)
+among_early : (w : World) (early late : List Act) → KeepsOrderAmong w (early ++ late) → KeepsOrderAmong w early
+among_early w [] late order = tt
+among_early w (act ∷ early) late order = (order.0, among_early (acts_without_versions w act) early late order.1)
 
-pub headline_holds : HeadlineHoldsWithoutVersions
-headline_holds early late order =
-    let w = run_without_versions empty early in
-    let v = run_without_versions empty (early ++ late) in
-    let i = always_without_versions early (order_early empty early late order) in
-    let j = always_without_versions (early ++ late) order in
-    let headline = headline_of (tagged i.tags w) (tagged j.tags v) i.inv j.inv (always_onward early late).stories in
+pub headline_holds_among : HeadlineHoldsWithoutVersionsAmong
+headline_holds_among ours early late apart order =
+    let w = run_without_versions_among empty early in
+    let v = run_without_versions_among empty (early ++ late) in
+    let i = always_without_versions_among ours early (apart_early ours early late apart) (among_early empty early late order) in
+    let j = always_without_versions_among ours (early ++ late) apart order in
+    let headline = headline_now (tagged i.tags w) (tagged j.tags v) i.inv j.inv (always_onward_among early late).stories in
     record {
       one_per_name = headline.one_per_name;
       its_image = headline.its_image;
       never_back = headline.never_back;
       reached = λ name known in_book some. headline.reached name (retagged (i.tags name) known) (tagged_known w i name known in_book) some;
     }
+
+pub headline_holds : HeadlineHoldsWithoutVersions
+headline_holds early late order =
+    let apart = subst (KeepsApart all_names) (map-append Ours early late) (without_others.apart (early ++ late)) in
+    let in_order = subst (KeepsOrderAmong empty) (map-append Ours early late) (order_alone empty (early ++ late) order) in
+    (without_others.headline (run_without_versions empty early) (run_without_versions empty (early ++ late))).0
+    (between (HeadlineAmong all_names) early late (headline_holds_among all_names (map Ours early) (map Ours late) apart in_order))

@@ -120,7 +120,7 @@ module _ (w : World) (name : RecordName) (request : Request) (asks : asking w.bo
           let clash : Some (Answered request (taken_for (reply_to w request))) ≡ Some (Asked r) = sym at_reply ∙ ap (slice_get (replied w request).messages) here ∙ there in
           absurd (cc)
 
-  pub exchange_keeps : InvariantWithoutVersions w → InvariantWithoutVersions (exchange_without_versions w name)
+  pub exchange_keeps : InvariantWithoutVersions all_names w → InvariantWithoutVersions all_names (exchange_without_versions w name)
   exchange_keeps i = run_keeps w (Sends name ∷ Delivers first ∷ Delivers (suc first) ∷ []) in_order i
 
   module _ (known : Known) (said : Finding) (about : subject request ≡ Some name) (in_book : w.book name ≡ Some known) (told : finding request (reply_to w request) ≡ Ok said) where
@@ -210,7 +210,7 @@ pub record AdvanceWithoutVersions (w : World) (name : RecordName) (known : Known
   pub led : LedTo w name request now
   pub goes : Goes w.entries name (retagged old known) (step w.entries (unconditional request)).entries (retagged tag now)
 
-module _ (w : World) (i : InvariantWithoutVersions w) (room : HasRoom w) (q : SoundAt Versions all_names (tagged i.tags w)) (name : RecordName) (known : Known) (in_book : w.book name ≡ Some known)
+module _ (w : World) (i : InvariantWithoutVersions all_names w) (room : HasRoom w) (q : SoundAt Versions all_names (tagged i.tags w)) (name : RecordName) (known : Known) (in_book : w.book name ≡ Some known)
     (old : List ℕ) where
   abbrev there : World
   there = tagged i.tags w

@@ -1,6 +1,6 @@
--- What is true after every event, at a provider without versions: under the tags of some versions, source, connector and
--- table are as they are with versions.
-use Rattle.std.proofs.Common.{◌≡◌, ℕ, zero, suc, List, [], ◌∷◌, ◌++◌, Option, Some, None, Result, Ok, Err, refl, ap, sym, ◌∙◌, subst}
+-- What is true at a provider without versions after every event, and after every act of ours and others: under the tags of
+-- some versions, source, connector and table are as they are with versions.
+use Rattle.std.proofs.Common.{◌≡◌, ℕ, zero, suc, true, List, [], ◌∷◌, ◌++◌, map, Option, Some, None, Result, Ok, Err, refl, ap, sym, ◌∙◌, subst}
 use Rattle.std.specs.Option.{option_map}
 use Rattle.scim_key.specs.Identifiers.{id_text}
 use Rattle.scim_key.specs.Revisions.{RevisionValue, ◌≼◌}
@@ -14,6 +14,7 @@ use Rattle.scim_message.specs.declared.messages.Request.TheVariants.{Create, Ret
 use Rattle.scim_message.specs.declared.messages.Answer.{Answer}
 use Rattle.provider_core.specs.Stories.{Step, step}
 use Rattle.provider_core.specs.Tables.{IsFact}
+use Rattle.provider_core.proofs.StoryLaws.{stories_only_grow}
 use Rattle.provider_core.proofs.TableLaws.{steps_write}
 use Rattle.source_csv.specs.Records.{row_name, row_revision}
 use Rattle.source_csv.specs.declared.rows.Row.{Row}
@@ -34,37 +35,41 @@ use Rattle.connector_core.specs.declared.learning.LearnFault.{LearnFault}
 use Rattle.world_model.specs.World.{World, Message, Asked, Answered, Event, Changes, Sends, Delivers, Cuts, Restarts_provider, Restarts_connector, Doubts, changes, sends, message_at, empty, judged}
 use Rattle.world_model.specs.Safe.{IsAt, Has, IsImage, id_in}
 use Rattle.world_model.specs.Untroubled.{request_content}
-use Rattle.world_model.specs.Invariant.{all_names, AllMade, Follows, InvariantAt}
-use Rattle.world_model.specs.Unversioned.{IsInOrder, IsLastOf, KeepsOrder, arrives_without_versions, delivers_without_versions, happens_without_versions, run_without_versions, taken_for}
+use Rattle.world_model.specs.Invariant.{Names, all_names, AllMade, Follows, InvariantAt}
+use Rattle.world_model.specs.Others.{Act, Ours, Theirs, IsApart, KeepsApart, LeavesAlone, OfOurs}
+use Rattle.world_model.specs.Unversioned.{IsActInOrder, IsInOrder, IsLastOf, KeepsOrder, KeepsOrderAmong, acts_without_versions, arrives_without_versions, delivers_without_versions, happens_without_versions, run_without_versions, run_without_versions_among, taken_for}
 use Rattle.world_model.proofs.Accepting.{rows_stay}
 use Rattle.world_model.proofs.Growing.{Grows}
 use Rattle.world_model.proofs.Imaging.{image_name, image_more, image_revision}
-use Rattle.world_model.proofs.Invariant.{compares_of, event_inv_at, none_inv_at}
+use Rattle.world_model.proofs.Invariant.{act_inv_at, compares_of, none_inv_at, of_ours_inv_at}
 use Rattle.world_model.proofs.Judging.{judged_by_source, lesson_wants, put_keeps}
 use Rattle.world_model.proofs.Keeping.{step_grows}
 use Rattle.world_model.proofs.Learned.{learnt_by, shows_first}
-use Rattle.world_model.proofs.Making.{all_made_more, with_row_ids, reopened_ids, doubted_ids, put_ids, asks_made, its_content, sent_made, step_made, WritesMade}
+use Rattle.world_model.proofs.Making.{all_made_more, with_row_ids, reopened_ids, doubted_ids, put_ids, asks_made, its_content, sent_made, step_made, writes_none, WritesMade}
 use Rattle.world_model.proofs.Noting.{all_noted_grow, put_noted}
+use Rattle.world_model.proofs.Others.{without_others}
+use Rattle.world_model.proofs.Ranking.{record_ours}
 use Rattle.world_model.proofs.Sending.{asked_of, knows, sends_of}
-use Rattle.world_model.proofs.UnversionedKeeping.{IsTop, LastAreTop, WritesAtTop, top_after, top_kept, top_push}
+use Rattle.world_model.proofs.UnversionedKeeping.{IsTop, LastAreTop, WritesAtTop, top_after, top_beside, top_kept, top_push}
 use Rattle.world_model.proofs.UnversionedLearning.{AllReplyTruly, IsTaught, RepliesTruly, Tagging, doubted_retagged, lesson_taught, put_retagged, replies_grow, replies_push, reopened_retagged, retagged, retagged_book, row_retagged, same_ids, same_wanted, taken_truly, with_tag}
 
 -- the world with these tags in sight, and no message
 abbrev pub tagged : Tagging → World → World
 tagged tags w = record w { book = retagged_book tags w.book; messages = [] }
 
--- what is true of source, connector and table with versions is true under some tags; each content that was asked for is an
--- image of an accepted row; replies are true; and what is asked last of a record is of no lower revision than what it holds
-pub record InvariantWithoutVersions (w : World) : Type 0 where
+-- if these records are ours: what is true of source, connector and table with versions is true under some tags; each content
+-- that was asked for is an image of an accepted row; replies are true; and what is asked last of a record is of no lower
+-- revision than what it holds
+pub record InvariantWithoutVersions (ours : Names) (w : World) : Type 0 where
   pub tags : Tagging
-  pub inv : InvariantAt Versions all_names (tagged tags w)
-  pub made : AllMade all_names w.history [] w.book w.messages
+  pub inv : InvariantAt Versions ours (tagged tags w)
+  pub made : AllMade ours w.history [] w.book w.messages
   pub replies : AllReplyTruly w.entries w.messages
   pub tops : LastAreTop w.entries w.messages
 
 -- ---- what follows
 
-module _ (w : World) (i : InvariantWithoutVersions w) where
+module _ {ours : Names} (w : World) (i : InvariantWithoutVersions ours w) where
   pub follows_history : Follows w.book w.history
   follows_history name = sym (same_wanted i.tags w.book name) ∙ i.inv.follows name
 
@@ -104,10 +109,10 @@ module _ (w : World) (i : InvariantWithoutVersions w) where
 
 -- ---- a row is offered
 
-changed : (w : World) (i : InvariantWithoutVersions w) (row : Row) (v : Result Verdict ChangeFault) → InvariantAt Versions all_names (changes (tagged i.tags w) row v) → InvariantWithoutVersions (changes w row v)
-changed w i row (Ok verdicts.New) inv = record {
+changed : {ours : Names} (w : World) (i : InvariantWithoutVersions ours w) (row : Row) (v : Result Verdict ChangeFault) → InvariantAt Versions ours (changes (tagged i.tags w) row v) → InvariantWithoutVersions ours (changes w row v)
+changed {ours} w i row (Ok verdicts.New) inv = record {
   tags = with_tag i.tags (row_name row) (i.tags (row_name row));
-  inv = subst (λ (b : Book). InvariantAt Versions all_names (record { history = w.history ++ row ∷ []; entries = w.entries; book = b; messages = [] })) (row_retagged i.tags w.book row (row_name row)) inv;
+  inv = subst (λ (b : Book). InvariantAt Versions ours (record { history = w.history ++ row ∷ []; entries = w.entries; book = b; messages = [] })) (row_retagged i.tags w.book row (row_name row)) inv;
   made = all_made_more w.history (w.history ++ row ∷ []) [] w.book _ w.messages (λ name r has. rows_stay w.history row name r has) (with_row_ids w.book row) i.made;
   replies = i.replies;
   tops = i.tops;
@@ -116,15 +121,15 @@ changed w i row (Ok verdicts.Known) inv = i
 changed w i row (Ok verdicts.Older) inv = i
 changed w i row (Err fault) inv = i
 
-changes_inv : (w : World) (row : Row) → InvariantWithoutVersions w → InvariantWithoutVersions (changes w row (judged w row))
-changes_inv w row i =
+changes_inv : {ours : Names} (w : World) (row : Row) → ours (row_name row) ≡ true → InvariantWithoutVersions ours w → InvariantWithoutVersions ours (changes w row (judged w row))
+changes_inv {ours} w row its i =
     let same : judged (tagged i.tags w) row ≡ judged w row = judged_by_source (tagged i.tags w) row i.inv.follows ∙ sym (judged_by_source w row (follows_history w i)) in
     changed w i row (judged w row)
-    (subst (λ (v : Result Verdict ChangeFault). InvariantAt Versions all_names (changes (tagged i.tags w) row v)) same (event_inv_at Versions (tagged i.tags w) (Changes row) i.inv))
+    (subst (λ (v : Result Verdict ChangeFault). InvariantAt Versions ours (changes (tagged i.tags w) row v)) same (of_ours_inv_at Versions (tagged i.tags w) (Changes row) its i.inv))
 
 -- ---- a message is sent
 
-sends_inv : (w : World) (name : RecordName) (o : Option Ask) → InvariantWithoutVersions w → asking w.book name ≡ o → InvariantWithoutVersions (sends w o)
+sends_inv : {ours : Names} (w : World) (name : RecordName) (o : Option Ask) → InvariantWithoutVersions ours w → asking w.book name ≡ o → InvariantWithoutVersions ours (sends w o)
 sends_inv w name None i is = i
 sends_inv w name (Some Nothing) i is = i
 sends_inv w name (Some (Waits member)) i is = i
@@ -148,7 +153,7 @@ same_written (Retrieve kind id m n) = refl
 same_written (Search kind wanted start count) = refl
 same_written (Replace id c m n) = refl
 
-module _ (w : World) (place : ℕ) (request : Request) (i : InvariantWithoutVersions w) (at : IsAt w.messages place (Asked request)) (last : IsLastOf w.messages place request) where
+module _ {ours : Names} (w : World) (place : ℕ) (request : Request) (i : InvariantWithoutVersions ours w) (at : IsAt w.messages place (Asked request)) (last : IsLastOf w.messages place request) where
   abbrev asked : Request
   asked = unconditional request
 
@@ -165,13 +170,13 @@ module _ (w : World) (place : ℕ) (request : Request) (i : InvariantWithoutVers
       (asked_image w i request content (place, at) its, i.tops place request content at its last)
 
   -- it was made by the ids that are known, whatever is in sight
-  writes_made : WritesMade all_names w.history (tagged i.tags w).book asked
+  writes_made : WritesMade ours w.history (tagged i.tags w).book asked
   writes_made content is mine =
       let same : GoesOn (known_id w.book) (known_id (tagged i.tags w).book) = λ name id has. ap (λ (f : RecordName → Option (List ℕ)). f name) (same_ids i.tags w.book) ∙ has in
       let there = all_made_more w.history w.history [] w.book (tagged i.tags w).book w.messages (λ name row has. has) same i.made in
       there.asked request content (place, at) (sym (same_written request) ∙ is)
 
-  table_inv : InvariantAt Versions all_names (record (tagged i.tags w) { entries = after.entries })
+  table_inv : InvariantAt Versions ours (record (tagged i.tags w) { entries = after.entries })
   table_inv = record {
     mine = i.inv.mine;
     rising = i.inv.rising;
@@ -179,7 +184,7 @@ module _ (w : World) (place : ℕ) (request : Request) (i : InvariantWithoutVers
     kept = top_kept w.history (steps_write w.entries asked) i.inv.kept writes_at_top grows;
     noted = all_noted_grow w.entries after.entries (tagged i.tags w).book grows.entries grows.whole i.inv.noted;
     told = λ j message there. absurd (cc);
-    made = step_made all_names w.history (tagged i.tags w).book w.entries [] asked writes_made i.inv.made;
+    made = step_made ours w.history (tagged i.tags w).book w.entries [] asked writes_made i.inv.made;
   }
 
   reply_truly : (r : Request) (answer : Answer) → Answered request (taken_for after.answer) ≡ Answered r answer → RepliesTruly after.entries r answer
@@ -188,29 +193,29 @@ module _ (w : World) (place : ℕ) (request : Request) (i : InvariantWithoutVers
       let answers : taken_for after.answer ≡ answer = cc in
       subst (λ (a : Answer). RepliesTruly after.entries r a) answers (subst (λ (q : Request). RepliesTruly after.entries q (taken_for after.answer)) requests (taken_truly w.entries request))
 
-  request_inv : InvariantWithoutVersions (arrives_without_versions w (Asked request))
+  request_inv : InvariantWithoutVersions ours (arrives_without_versions w (Asked request))
   request_inv = record {
     tags = i.tags;
     inv = table_inv;
     made = sent_made w.history [] w.book w.messages (Answered request (taken_for after.answer)) (λ r content same is. absurd (cc)) i.made;
     replies = replies_push after.entries w.messages (Answered request (taken_for after.answer)) (replies_grow w.entries after.entries w.messages grows.entries i.replies) reply_truly;
     tops = top_push after.entries w.messages (Answered request (taken_for after.answer))
-        (top_after w.messages place request (steps_write w.entries asked) (same_written request) at last grows.whole i.tops) (λ r content same is. absurd (cc));
+        (top_after w.messages (steps_write w.entries asked) grows.whole i.tops place request (same_written request) at last) (λ r content same is. absurd (cc));
   }
 
 -- ---- a reply arrives
 
-module _ (w : World) (request : Request) (answer : Answer) (i : InvariantWithoutVersions w) (truly : RepliesTruly w.entries request answer) where
+module _ {ours : Names} (w : World) (request : Request) (answer : Answer) (i : InvariantWithoutVersions ours w) (truly : RepliesTruly w.entries request answer) where
   -- what is known of one record changes
   taught_inv : (name : RecordName) (known now : Known) → w.book name ≡ Some known → now.wanted ≡ known.wanted → IsTaught w.entries name known now
-      → InvariantWithoutVersions (record w { book = put w.book name now })
+      → InvariantWithoutVersions ours (record w { book = put w.book name now })
   taught_inv name known now in_book wanted t =
       let after = retagged t.tag now in
       let before = retagged (i.tags name) known in
       let there = tagged_known w i name known in_book in
       record {
         tags = with_tag i.tags name t.tag;
-        inv = subst (λ (b : Book). InvariantAt Versions all_names (record { history = w.history; entries = w.entries; book = b; messages = [] })) (put_retagged i.tags w.book name t.tag now) (record {
+        inv = subst (λ (b : Book). InvariantAt Versions ours (record { history = w.history; entries = w.entries; book = b; messages = [] })) (put_retagged i.tags w.book name t.tag now) (record {
           mine = i.inv.mine;
           rising = i.inv.rising;
           follows = λ q. put_keeps (tagged i.tags w).book name before after q there wanted ∙ i.inv.follows q;
@@ -224,10 +229,10 @@ module _ (w : World) (request : Request) (answer : Answer) (i : InvariantWithout
         tops = i.tops;
       }
 
-  reply_inv : InvariantWithoutVersions (arrives_without_versions w (Answered request answer))
+  reply_inv : InvariantWithoutVersions ours (arrives_without_versions w (Answered request answer))
   reply_inv = go (learn_at Versions w.book request answer) refl
     where
-      go : (r : Result Learning LearnFault) → learn_at Versions w.book request answer ≡ r → InvariantWithoutVersions (record w { book = after_learning w.book r })
+      go : (r : Result Learning LearnFault) → learn_at Versions w.book request answer ≡ r → InvariantWithoutVersions ours (record w { book = after_learning w.book r })
       go (Err fault) is = i
       go (Ok learning) is =
           let t = learnt_by Versions w.book request answer learning is in
@@ -235,15 +240,15 @@ module _ (w : World) (request : Request) (answer : Answer) (i : InvariantWithout
           let taught = lesson_taught w.entries i.tags w.book t.name t.known i.inv.kept.whole (i.tags t.name) (i.inv.noted t.name (retagged (i.tags t.name) t.known) there)
           (compares_of (tagged i.tags w) i.inv t.name (retagged (i.tags t.name) t.known) there)
           (λ s said. truly 0 s (shows_first request (heard Versions request answer) s (t.says ∙ ap Ok said))) t.learns in
-          subst (λ (b : Book). InvariantWithoutVersions (record w { book = b })) (sym t.book_after)
+          subst (λ (b : Book). InvariantWithoutVersions ours (record w { book = b })) (sym t.book_after)
           (taught_inv t.name t.known t.teaches.known t.in_book (lesson_wants w.book t.name t.known t.learns) taught)
 
 numbered : (messages : List Message) (number : ℕ) (message : Message) → message_at messages number ≡ Some message → (place : ℕ) × (number ≡ suc place) × IsAt messages place message
 numbered messages zero message is = absurd (cc)
 numbered messages (suc place) message is = (place, refl, is)
 
-delivers_inv : (w : World) (number : ℕ) (o : Option Message) → IsInOrder w (Delivers number) → InvariantWithoutVersions w → message_at w.messages number ≡ o
-    → InvariantWithoutVersions (delivers_without_versions w o)
+delivers_inv : {ours : Names} (w : World) (number : ℕ) (o : Option Message) → IsInOrder w (Delivers number) → InvariantWithoutVersions ours w → message_at w.messages number ≡ o
+    → InvariantWithoutVersions ours (delivers_without_versions w o)
 delivers_inv w number None order i is = i
 delivers_inv w number (Some (Asked request)) order i is =
     let (place, counted, at) = numbered w.messages number (Asked request) is in request_inv w place request i at (order place request counted at)
@@ -253,8 +258,8 @@ delivers_inv w number (Some (Answered request answer)) order i is =
 -- ---- every event
 
 -- an event that changes only the book, and no id
-book_inv : (w : World) (b : Book) (i : InvariantWithoutVersions w) → GoesOn (known_id w.book) (known_id b) → InvariantAt Versions all_names (tagged i.tags (record w { book = b }))
-    → InvariantWithoutVersions (record w { book = b })
+book_inv : {ours : Names} (w : World) (b : Book) (i : InvariantWithoutVersions ours w) → GoesOn (known_id w.book) (known_id b) → InvariantAt Versions ours (tagged i.tags (record w { book = b }))
+    → InvariantWithoutVersions ours (record w { book = b })
 book_inv w b i ids inv = record {
   tags = i.tags;
   inv = inv;
@@ -263,31 +268,79 @@ book_inv w b i ids inv = record {
   tops = i.tops;
 }
 
-pub event_without_versions : (w : World) (event : Event) → IsInOrder w event → InvariantWithoutVersions w → InvariantWithoutVersions (happens_without_versions w event)
-event_without_versions w (Changes row) order i = changes_inv w row i
-event_without_versions w (Sends name) order i = sends_inv w name (asking w.book name) i refl
-event_without_versions w (Delivers number) order i = delivers_inv w number (message_at w.messages number) order i refl
-event_without_versions w (Cuts number length) order i = i
-event_without_versions w Restarts_provider order i = i
-event_without_versions w Restarts_connector order i = book_inv w (reopened w.book) i (reopened_ids w.book)
-    (subst (λ (b : Book). InvariantAt Versions all_names (record { history = w.history; entries = w.entries; book = b; messages = [] })) (reopened_retagged i.tags w.book)
-    (event_inv_at Versions (tagged i.tags w) Restarts_connector i.inv))
-event_without_versions w (Doubts name) order i = book_inv w (doubted w.book name) i (doubted_ids w.book name)
-    (subst (λ (b : Book). InvariantAt Versions all_names (record { history = w.history; entries = w.entries; book = b; messages = [] })) (doubted_retagged i.tags w.book name)
-    (event_inv_at Versions (tagged i.tags w) (Doubts name) i.inv))
+pub event_without_versions : {ours : Names} (w : World) (event : Event) → OfOurs ours event → IsInOrder w event → InvariantWithoutVersions ours w → InvariantWithoutVersions ours (happens_without_versions w event)
+event_without_versions w (Changes row) its order i = changes_inv w row its i
+event_without_versions w (Sends name) its order i = sends_inv w name (asking w.book name) i refl
+event_without_versions w (Delivers number) its order i = delivers_inv w number (message_at w.messages number) order i refl
+event_without_versions w (Cuts number length) its order i = i
+event_without_versions w Restarts_provider its order i = i
+event_without_versions {ours} w Restarts_connector its order i = book_inv w (reopened w.book) i (reopened_ids w.book)
+    (subst (λ (b : Book). InvariantAt Versions ours (record { history = w.history; entries = w.entries; book = b; messages = [] })) (reopened_retagged i.tags w.book)
+    (of_ours_inv_at Versions (tagged i.tags w) Restarts_connector its i.inv))
+event_without_versions {ours} w (Doubts name) its order i = book_inv w (doubted w.book name) i (doubted_ids w.book name)
+    (subst (λ (b : Book). InvariantAt Versions ours (record { history = w.history; entries = w.entries; book = b; messages = [] })) (doubted_retagged i.tags w.book name)
+    (of_ours_inv_at Versions (tagged i.tags w) (Doubts name) its i.inv))
 
-pub none_without_versions : InvariantWithoutVersions empty
-none_without_versions = record {
+-- ---- somebody else's request
+
+alone_unconditional : (ours : Names) (request : Request) → LeavesAlone ours request → LeavesAlone ours (unconditional request)
+alone_unconditional ours (Create c) alone = alone
+alone_unconditional ours (Retrieve kind id m n) alone = tt
+alone_unconditional ours (Search kind wanted start count) alone = tt
+alone_unconditional ours (Replace id c m n) alone = alone
+
+pub theirs_without_versions : {ours : Names} (w : World) (request : Request) → LeavesAlone ours request → InvariantWithoutVersions ours w
+    → InvariantWithoutVersions ours (acts_without_versions w (Theirs request))
+theirs_without_versions {ours} w request alone i =
+    let asked = unconditional request in
+    let inv = act_inv_at Versions (tagged i.tags w) (Theirs asked) (alone_unconditional ours request alone) i.inv in
+    record {
+      tags = i.tags;
+      inv = inv;
+      made = i.made;
+      replies = replies_grow w.entries (step w.entries asked).entries w.messages (stories_only_grow w.entries asked) i.replies;
+      tops = top_beside w.messages (steps_write w.entries asked) inv.kept.whole i.tops (λ c is q d has writes names.
+          let made = i.made.asked q d has writes in
+          let mine = record_ours ours w.history i.inv.mine (content_name d) made.row made.accepted in
+          writes_none ours asked (alone_unconditional ours request alone) c is (ap ours names ∙ mine));
+    }
+
+-- ---- every act
+
+pub act_without_versions : {ours : Names} (w : World) (act : Act) → IsApart ours act → IsActInOrder w act → InvariantWithoutVersions ours w → InvariantWithoutVersions ours (acts_without_versions w act)
+act_without_versions w (Ours event) apart order i = event_without_versions w event apart order i
+act_without_versions w (Theirs request) apart order i = theirs_without_versions w request apart i
+
+pub none_without_versions : (ours : Names) → InvariantWithoutVersions ours empty
+none_without_versions ours = record {
   tags = λ name. [];
-  inv = none_inv_at Versions all_names;
+  inv = none_inv_at Versions ours;
   made = record { asked = λ request content has is. absurd (cc has.1); held = λ e content has mine in_story. absurd (cc has.1) };
   replies = λ i request answer at. absurd (cc);
   tops = λ place request content at. absurd (cc);
 }
 
-pub run_keeps : (w : World) (events : List Event) → KeepsOrder w events → InvariantWithoutVersions w → InvariantWithoutVersions (run_without_versions w events)
-run_keeps w [] order i = i
-run_keeps w (event ∷ events) order i = run_keeps (happens_without_versions w event) events order.1 (event_without_versions w event order.0 i)
+pub among_keeps : {ours : Names} (w : World) (later : List Act) → KeepsApart ours later → KeepsOrderAmong w later → InvariantWithoutVersions ours w
+    → InvariantWithoutVersions ours (run_without_versions_among w later)
+among_keeps w [] apart order i = i
+among_keeps w (act ∷ later) apart order i = among_keeps (acts_without_versions w act) later apart.1 order.1 (act_without_versions w act apart.0 order.0 i)
 
-pub always_without_versions : (events : List Event) → KeepsOrder empty events → InvariantWithoutVersions (run_without_versions empty events)
-always_without_versions events order = run_keeps empty events order none_without_versions
+pub always_without_versions_among : (ours : Names) (all : List Act) → KeepsApart ours all → KeepsOrderAmong empty all → InvariantWithoutVersions ours (run_without_versions_among empty all)
+always_without_versions_among ours all apart order = among_keeps empty all apart order (none_without_versions ours)
+
+-- ---- without others
+
+pub runs_alone : (w : World) (events : List Event) → run_without_versions_among w (map Ours events) ≡ run_without_versions w events
+runs_alone w [] = refl
+runs_alone w (event ∷ events) = runs_alone (happens_without_versions w event) events
+
+pub order_alone : (w : World) (events : List Event) → KeepsOrder w events → KeepsOrderAmong w (map Ours events)
+order_alone w [] order = tt
+order_alone w (event ∷ events) order = (order.0, order_alone (happens_without_versions w event) events order.1)
+
+pub run_keeps : (w : World) (events : List Event) → KeepsOrder w events → InvariantWithoutVersions all_names w → InvariantWithoutVersions all_names (run_without_versions w events)
+run_keeps w events order i =
+    subst (InvariantWithoutVersions all_names) (runs_alone w events) (among_keeps w (map Ours events) (without_others.apart events) (order_alone w events order) i)
+
+pub always_without_versions : (events : List Event) → KeepsOrder empty events → InvariantWithoutVersions all_names (run_without_versions empty events)
+always_without_versions events order = run_keeps empty events order (none_without_versions all_names)

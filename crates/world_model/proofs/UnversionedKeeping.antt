@@ -25,7 +25,7 @@ use Rattle.connector_core.specs.Learning.{content_revision}
 use Rattle.world_model.specs.World.{Message, Asked}
 use Rattle.world_model.specs.Safe.{IsAt, Has, IsImage}
 use Rattle.world_model.specs.Untroubled.{request_content}
-use Rattle.world_model.specs.Invariant.{all_names, KeptAt, OverwritesAt}
+use Rattle.world_model.specs.Invariant.{Names, KeptAt, OverwritesAt}
 use Rattle.world_model.specs.Unversioned.{IsLastOf}
 use Rattle.world_model.proofs.Growing.{Grows}
 use Rattle.world_model.proofs.Keeping.{held_revision, created_kept, renewed_kept}
@@ -49,10 +49,10 @@ is_current : (e : Entry) → length (story e) < last_version → holds_match (cu
 is_current e below = (has_version-alone (length (story e)) (length (story e)) (omega (arith, below)) (omega (arith, below))).1 refl
 
 -- a Replace does what one under that condition does
-overwrites : (history : History) (es : List Entry) (i : ℕ) (e : Entry) (content : Content) → KeptAt Versions all_names history es → IsAt es i e → e.name ≡ content_name content
-    → IsImage history es (content_name content) content → IsTop es content → OverwritesAt Versions history es (id_text (suc i)) content (current e)
-overwrites history es i e content kept there named image top =
-    let (held, has_held) = held_revision history es kept i e there refl in
+overwrites : {ours : Names} (history : History) (es : List Entry) (i : ℕ) (e : Entry) (content : Content) → KeptAt Versions ours history es → ours (content_name content) ≡ true → IsAt es i e
+    → e.name ≡ content_name content → IsImage history es (content_name content) content → IsTop es content → OverwritesAt Versions history es (id_text (suc i)) content (current e)
+overwrites {ours} history es i e content kept mine there named image top =
+    let (held, has_held) = held_revision history es kept i e there (ap ours named ∙ mine) in
     let count : length (story e) ≡ suc (length e.earlier) = omega (arith, length-append e.earlier (e.held ∷ [])) in
     record {
       image = image;
@@ -76,13 +76,13 @@ overwrites history es i e content kept there named image top =
       rises = top e e.held held (row_revision image.row) (i, there) named (length e.earlier, held_at e) has_held image.revision;
     }
 
-pub top_kept : (history : History) {es : List Entry} {request : Request} {fs : List Entry} → Writes es request fs → KeptAt Versions all_names history es → WritesAtTop history es request
-    → Grows history es history fs → KeptAt Versions all_names history fs
+pub top_kept : {ours : Names} (history : History) {es : List Entry} {request : Request} {fs : List Entry} → Writes es request fs → KeptAt Versions ours history es → WritesAtTop history es request
+    → Grows history es history fs → KeptAt Versions ours history fs
 top_kept history nothing kept writes grows = kept
 top_kept history (created {es = es} content free) kept writes grows = created_kept history es content kept (λ mine. (writes content refl).0) grows
 top_kept history (replaced {es = es} i e content m n there named below holds) kept writes grows =
     let now = writes content refl in
-    renewed_kept history es i e content (current e) (id_text (suc i)) kept (λ mine. overwrites history es i e content kept there named now.0 now.1) there named below (is_current e below) grows
+    renewed_kept history es i e content (current e) (id_text (suc i)) kept (λ mine. overwrites history es i e content kept mine there named now.0 now.1) there named below (is_current e below) grows
 
 -- ---- what is last is at the top
 
@@ -127,22 +127,36 @@ same_content c d is = cc
 same_request : (q r : Request) → Some (Asked q) ≡ Some (Asked r) → q ≡ r
 same_request q r is = cc
 
--- the last request of a record arrives, and what is last stays at the top
-module _ {es : List Entry} {request : Request} {fs : List Entry} (messages : List Message) (place : ℕ) (asked : Request) (writes : Writes es request fs)
-    (carries : request_content request ≡ request_content asked) (at : IsAt messages place (Asked asked)) (last : IsLastOf messages place asked) (whole : IsWholeTable fs) where
-  pub top_after : LastAreTop es messages → LastAreTop fs messages
-  top_after tops p q d at_q q_writes q_last f c r s has named in_story has_r has_s = elim (held_or_written writes f c has in_story) [
+-- the content isn't above what was asked last of its record
+abbrev IsUpToLast : List Message → Content → Type 0
+IsUpToLast messages c = (p : ℕ) (q : Request) (d : Content) (r s : RevisionValue) → IsAt messages p (Asked q) → request_content q ≡ Some d → IsLastOf messages p q → content_name c ≡ content_name d
+    → content_revision c ≡ Some r → content_revision d ≡ Some s → r ≼ s
+
+-- a request is carried out
+module _ {es : List Entry} {request : Request} {fs : List Entry} (messages : List Message) (writes : Writes es request fs) (whole : IsWholeTable fs) (tops : LastAreTop es messages) where
+  top_if : ((c : Content) → request_content request ≡ Some c → IsUpToLast messages c) → LastAreTop fs messages
+  top_if up p q d at_q q_writes q_last f c r s has named in_story has_r has_s = elim (held_or_written writes f c has in_story) [
     | inl old ↦ tops p q d at_q q_writes q_last old.0 c r s old.1 (old.2 ∙ named) old.3 has_r has_s
-    | inr new ↦ written (sym carries ∙ new) (whole.named has.0 in_story.0 f c has.1 in_story.1 ∙ named) (cases_order p place)
+    | inr new ↦ up c new p q d r s at_q q_writes q_last (whole.named has.0 in_story.0 f c has.1 in_story.1 ∙ named) has_r has_s
   ]
+
+  -- the last request of a record arrives, and what is last stays at the top
+  pub top_after : (place : ℕ) (asked : Request) → request_content request ≡ request_content asked → IsAt messages place (Asked asked) → IsLastOf messages place asked → LastAreTop fs messages
+  top_after place asked carries at last = top_if (λ c is p. up_to_last c (sym carries ∙ is) p (cases_order p place))
     where
       -- two requests that are last of the same record are one
-      written : request_content asked ≡ Some c → content_name c ≡ content_name d → (p ≡ place) ⊎ ((p < place) ⊎ (place < p)) → r ≼ s
-      written is names (inl same) =
+      up_to_last : (c : Content) → request_content asked ≡ Some c → (p : ℕ) → (p ≡ place) ⊎ ((p < place) ⊎ (place < p)) → (q : Request) (d : Content) (r s : RevisionValue) → IsAt messages p (Asked q)
+          → request_content q ≡ Some d → IsLastOf messages p q → content_name c ≡ content_name d → content_revision c ≡ Some r → content_revision d ≡ Some s → r ≼ s
+      up_to_last c is p (inl same) q d r s at_q q_writes q_last names has_r has_s =
           let one : q ≡ asked = same_request q asked (sym at_q ∙ ap (slice_get messages) same ∙ at) in
           let contents : d ≡ c = same_content d c (sym q_writes ∙ ap request_content one ∙ is) in
           let revisions : Some r ≡ Some s = sym has_r ∙ ap content_revision (sym contents) ∙ has_s in
           let equal : r ≡ s = cc in
           subst (λ (x : RevisionValue). r ≼ x) equal (reflexive_up_to r)
-      written is names (inr (inl before)) = absurd (q_last place asked d c before at q_writes is (sym names))
-      written is names (inr (inr after)) = absurd (last p q c d after at_q is q_writes names)
+      up_to_last c is p (inr (inl before)) q d r s at_q q_writes q_last names has_r has_s = absurd (q_last place asked d c before at q_writes is (sym names))
+      up_to_last c is p (inr (inr after)) q d r s at_q q_writes q_last names has_r has_s = absurd (last p q c d after at_q is q_writes names)
+
+  -- so it does if the request writes no record that was ever asked for
+  pub top_beside : ((c : Content) → request_content request ≡ Some c → (q : Request) (d : Content) → Has messages (Asked q) → request_content q ≡ Some d → content_name c ≡ content_name d → ⊥)
+      → LastAreTop fs messages
+  top_beside other = top_if (λ c is p q d r s at_q q_writes q_last names has_r has_s. absurd (other c is q d (p, at_q) q_writes names))

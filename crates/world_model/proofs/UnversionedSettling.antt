@@ -29,6 +29,7 @@ use Rattle.world_model.proofs.Asked.{IsDone, HasImage, asks_nothing}
 use Rattle.world_model.proofs.Calm.{name_known_by}
 use Rattle.world_model.proofs.Counting.{InOrder, none_counted}
 use Rattle.world_model.proofs.Done.{settled_of}
+use Rattle.world_model.proofs.Invariant.{all_of_ours}
 use Rattle.world_model.proofs.Phases.{SoundAt, accepted}
 use Rattle.world_model.proofs.Quiet.{row_counted}
 use Rattle.world_model.proofs.Room.{places_few}
@@ -41,7 +42,7 @@ use Rattle.world_model.proofs.UnversionedLearning.{retagged, same_ids}
 -- ---- a world from which this many exchanges may be made
 
 record Fine (left : ℕ) (w : World) : Type 0 where
-  i : InvariantWithoutVersions w
+  i : InvariantWithoutVersions all_names w
   source : Source w.history
   space : Space left w.entries
 
@@ -59,7 +60,7 @@ delivers_space n w (Some (Asked request)) s = step_space n w.entries (unconditio
 delivers_space n w (Some (Answered request answer)) s = less_space n w.entries s
 
 event_fine : (n : ℕ) (w : World) (event : Event) → IsLawful event → IsInOrder w event → Fine (suc n) w → Fine n (happens_without_versions w event)
-event_fine n w event law order f = record { i = event_without_versions w event order f.i; source = source event law; space = space event }
+event_fine n w event law order f = record { i = event_without_versions w event (all_of_ours event) order f.i; source = source event law; space = space event }
   where
     source : (event : Event) → IsLawful event → Source (happens_without_versions w event).history
     source (Changes row) l = event_source w (Changes row) l (follows_history w f.i) f.source
@@ -144,7 +145,7 @@ module _ (w : World) (name : RecordName) (known : Known) (old : List ℕ) (x : A
   abbrev then : World
   then = exchange_without_versions w name
 
-  then_fine : (left : ℕ) → Fine (suc left) w → InvariantWithoutVersions then → Fine left then
+  then_fine : (left : ℕ) → Fine (suc left) w → InvariantWithoutVersions all_names then → Fine left then
   then_fine left f i = record {
     i = i;
     source = subst Source (sym x.led.history) f.source;
@@ -226,7 +227,7 @@ all_records (name ∷ names) w f order all rest =
 
 none_fine : (left : ℕ) → left < last_version → Fine left empty
 none_fine left few = record {
-  i = none_without_versions;
+  i = none_without_versions all_names;
   source = record { lawful = λ i row at. absurd (cc); counted = none_counted; members = tt };
   space = record { first = few; each = λ i e at. absurd (cc) };
 }

@@ -31,6 +31,8 @@ use Rattle.world_model.specs.Safe.{id_in, is_inactive}
 use Rattle.world_model.specs.Providers.{IsVersionAt, StoryRisesAt, arrives_at, happens_at}
 use Rattle.world_model.specs.Settled.{Wants, Rests, IsSettled}
 use Rattle.world_model.specs.Untroubled.{IsLawful, request_content}
+use Rattle.world_model.specs.Invariant.{Names}
+use Rattle.world_model.specs.Others.{Act, Ours, Theirs, KeepsApart, HeadlineAmong}
 
 -- ---- events
 
@@ -140,6 +142,40 @@ AlwaysOnwardWithoutVersions = (early late : List Event)
 abbrev pub JudgesBySourceWithoutVersions : Type 0
 JudgesBySourceWithoutVersions = (events : List Event) (row : Row)
     → judged (run_without_versions empty events) row ≡ judging_by_source (run_without_versions empty events).history row
+
+-- ---- among others
+
+-- One act: an event of our world, or somebody else's request, which the provider carries out without its conditions;
+-- its answer goes elsewhere
+abbrev pub acts_without_versions : World → Act → World
+acts_without_versions w (Ours event) = happens_without_versions w event
+acts_without_versions w (Theirs request) = record w { entries = (step w.entries (unconditional request)).entries }
+
+-- One act after the other
+abbrev pub run_without_versions_among : World → List Act → World
+run_without_versions_among w [] = w
+run_without_versions_among w (act ∷ later) = run_without_versions_among (acts_without_versions w act) later
+
+-- an event of ours is in order; others send what they like, when they like
+abbrev pub IsActInOrder : World → Act → Type 0
+IsActInOrder w (Ours event) = IsInOrder w event
+IsActInOrder w (Theirs request) = Unit {0}
+
+-- along acts, no request of ours that writes a record is delivered after a later one that writes the same record was
+-- sent
+abbrev pub KeepsOrderAmong : World → List Act → Type 0
+KeepsOrderAmong w [] = Unit {0}
+KeepsOrderAmong w (act ∷ later) = IsActInOrder w act × KeepsOrderAmong (acts_without_versions w act) later
+
+abbrev pub HeadlineHoldsWithoutVersionsAmong : Type 0
+HeadlineHoldsWithoutVersionsAmong = (ours : Names) (early late : List Act) → KeepsApart ours (early ++ late)
+    → KeepsOrderAmong empty (early ++ late)
+    → HeadlineAmong ours (run_without_versions_among empty early) (run_without_versions_among empty (early ++ late))
+
+-- whatever others write, and in whatever order requests arrive
+abbrev pub AlwaysOnwardWithoutVersionsAmong : Type 0
+AlwaysOnwardWithoutVersionsAmong = (early late : List Act)
+    → Onward (run_without_versions_among empty early) (run_without_versions_among empty (early ++ late))
 
 -- ---- settling
 

@@ -59,8 +59,10 @@ ghost use Rattle.world_model.specs.Several.{
 ghost use Rattle.world_model.specs.Untroubled.{NeverRefused};
 ghost use Rattle.world_model.specs.Unversioned.{
   AlwaysOnwardWithoutVersions,
+  AlwaysOnwardWithoutVersionsAmong,
   AlwaysSafeWithoutVersions,
   HeadlineHoldsWithoutVersions,
+  HeadlineHoldsWithoutVersionsAmong,
   JudgesBySourceWithoutVersions,
   SettlesWithoutVersions,
 };
@@ -221,12 +223,17 @@ pub fn holds_with_each_provider()
 /// for word, if no request that writes a record is delivered after a later one that writes the same record was sent
 /// (`headline`). Then the world is safe, too: what was seen is the record's resource, and some version of it has the
 /// noted revision or a later one (`safe`). In whatever order requests arrive, nothing of ours is lost or changed, no
-/// confirmed revision falls (`onward`), and the connector judges as before (`judges`).
+/// confirmed revision falls (`onward`), and the connector judges as before (`judges`). If others write there too and
+/// leave our records alone, the order is asked of our own requests alone, and the headline holds for our records
+/// (`among`). Whatever others write, nothing of ours is lost or changed, and no confirmed revision falls
+/// (`onward_among`).
 pub fn holds_without_versions()
     ensures headline { HeadlineHoldsWithoutVersions }
     ensures safe { AlwaysSafeWithoutVersions }
     ensures onward { AlwaysOnwardWithoutVersions }
     ensures judges { JudgesBySourceWithoutVersions }
+    ensures among { HeadlineHoldsWithoutVersionsAmong }
+    ensures onward_among { AlwaysOnwardWithoutVersionsAmong }
 {}
 
 /// At such a provider, too, at most three exchanges for each record settle all records, from every world that a run

@@ -12,3 +12,9 @@ returns-clause-onward c = unversioned.always_onward
 
 pub returns-clause-judges : goal.returns-clause-judges
 returns-clause-judges c = unversioned.judges_by_source
+
+pub returns-clause-among : goal.returns-clause-among
+returns-clause-among c = unversioned.headline_holds_among
+
+pub returns-clause-onward_among : goal.returns-clause-onward_among
+returns-clause-onward_among c = unversioned.always_onward_among
