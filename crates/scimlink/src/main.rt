@@ -3,16 +3,16 @@
 
 mod arguments;
 mod causes;
+mod command_line;
 mod options;
-mod parsing;
 mod simulating;
 
 use arguments::{arguments, tell};
 use causes::report;
 use clap::ArgMatches;
+use command_line::{events_help, program};
 use commands::words::{journal, store};
 use commands::{CommandFault, Status, told};
-use parsing::{events_help, program};
 use std::alloc::Global;
 use std::net::Net;
 use std::process::ExitCode;

@@ -1,4 +1,5 @@
 //! The commands and their options.
+
 /// The base of a service if the arguments have none.
 pub const DEFAULT_BASE: &str = "http://localhost:8080/v2";
 
