@@ -306,8 +306,10 @@ def version(trial):
         return NO_USER
     found = [it.version for it in trial.shown if it.is_found]
     versions = [it.version for it in trial.shown if it.version is not None]
-    if None in found or not versions:
+    if None in found:
         return NOT_MET, "A search shows the user without meta.version. Accounts can't be replaced: C2"
+    if not versions:
+        return NOT_MET, "No answer shows a version of the user. Accounts can't be replaced: C2"
     other = next((printed(it) for it in versions if not is_strong(it)), None)
     if other is not None and other.startswith("W/"):
         return NOT_MET, f"The version {other} is weak. New records are confirmed, and changed ones may stay unconfirmed"

@@ -30,6 +30,7 @@ REPLACED = {
 CREATED = {
     "201 without a body": lambda version: answer(201),
     "201 without a body, with ETag": lambda version: answer(201, ETag=version),
+    "201 with no chunk": lambda version: head(201, Transfer_Encoding="chunked") + b"0\r\n\r\n",
 }
 
 
