@@ -24,24 +24,6 @@ with_of x others (y ∷ all) (inl (same, are)) = ([], all, ap (λ z. z ∷ all) 
 with_of x others (y ∷ all) (inr (rest, are, holds)) =
     let with = with_of x rest all holds in (y ∷ with.0, with.1, ap (λ l. y ∷ l) with.2, are ∙ ap (λ l. y ∷ l) with.3)
 
-pub holds_first : {X : Type 0} (x : X) (xs : List X) → Holds x xs (x ∷ xs)
-holds_first x xs = inl (refl, refl)
-
--- of two of them, either may be taken out first
-abbrev Either : {X : Type 0} (x y : X) (others all : List X) → Type 0
-Either {X} x y others all = (left : List X) × Holds y left all × Holds x others left
-
-either_later : {X : Type 0} (x y z : X) (others more all : List X) → Holds x more all → ((fewer : List X) → Holds y fewer more → Either x y fewer all) → Holds y others (z ∷ more) → Either x y others (z ∷ all)
-either_later {X} x y z others more all one later (inl (same, these)) = (all, inl (same, refl), subst (λ (l : List X). Holds x l all) (sym these) one)
-either_later {X} x y z others more all one later (inr (fewer, these, other)) =
-    let both = later fewer other in (z ∷ both.0, inr (both.0, refl, both.1), inr (fewer, these, both.2))
-
-pub either_first : {X : Type 0} (x y : X) (others rest all : List X) → Holds x rest all → Holds y others rest → Either x y others all
-either_first x y others rest [] one two = absurd one
-either_first {X} x y others rest (z ∷ all) (inl (same, are)) two = (z ∷ others, inr (others, refl, subst (λ (l : List X). Holds y others l) are two), inl (same, refl))
-either_first {X} x y others rest (z ∷ all) (inr (more, are, one)) two =
-    either_later x y z others more all one (λ fewer other. either_first x y fewer more all one other) (subst (λ (l : List X). Holds y others l) are two)
-
 -- ---- what holds of each
 
 pub all_of : {X : Type 0} (F : X → Type 0) (x : X) (others all : List X) → Holds x others all → F x → AllByRecursion F others → AllByRecursion F all
@@ -55,10 +37,6 @@ one_of F x others [] holds each = absurd holds
 one_of F x others (y ∷ all) (inl (same, are)) each = (subst F (sym same) each.0, subst (AllByRecursion F) (sym are) each.1)
 one_of F x others (y ∷ all) (inr (rest, are, holds)) each =
     let more = one_of F x rest all holds each.1 in (more.0, subst (AllByRecursion F) (sym are) (each.0, more.1))
-
-pub all_mapped : {X Y : Type 0} (F : Y → Type 0) (f : X → Y) (xs : List X) → AllByRecursion F (map f xs) → AllByRecursion (λ x. F (f x)) xs
-all_mapped F f [] each = tt
-all_mapped F f (x ∷ xs) each = (each.0, all_mapped F f xs each.1)
 
 pub all_front : {X : Type 0} (F : X → Type 0) (xs ys : List X) → AllByRecursion F (xs ++ ys) → AllByRecursion F xs
 all_front F [] ys each = tt

@@ -10,7 +10,6 @@ pub mod AmongTraces
 pub mod AmongSeveral
 pub mod Calls
 pub mod Pushes
-pub mod Flights
 pub mod Reopening
 pub mod Abreast
 pub mod Moves
