@@ -19,7 +19,7 @@ use Rattle.provisioning.specs.Leavers.{is_switched_off}
 use Rattle.provisioning.specs.Runs.{Done}
 use Rattle.provisioning.specs.Services.{Service, keeping_at}
 use Rattle.provisioning.specs.Tracks.{Advances, Begins, Closes, IsLearnt, IsSetOut, faulted, fresh, put_off}
-use Rattle.provisioning.specs.Windows.{AllMoved, AreMoves, Breaks, Causes, IsBegun, IsContinued, IsDelayed, IsMove, IsMoved, IsReported, IsResumed, IsWith, LooksThrough, PartMoved, Point, PushesAbreast, Scene, at_start, name_of, names_in}
+use Rattle.provisioning.specs.Windows.{AllMoved, AreMoves, Breaks, Causes, IsMove, IsWith, LooksThrough, PartMoved, Point, PushesAbreast, Scene, at_start, name_of, names_in}
 use Rattle.provisioning.specs.declared.faults.RecordFault.{RecordFault}
 use Rattle.provisioning.specs.declared.faults.RunFault.{RunFault}
 use Rattle.provisioning.specs.declared.pushing.Tally.{Tally}
@@ -63,12 +63,14 @@ module _ {I O : Type 0} where
     pub each : AllByRecursion May rest
     pub apart : OnePerName rest
 
-  no_more : (May Its : Asking I O → Type 0) (name : RecordName) → ((e : Asking I O) → Its e → e.0 ≡ name) → (waits : List (Asking I O)) → AllByRecursion (λ (e : Asking I O). May e ⊎ Its e) waits → AllByRecursion (λ (e : Asking I O). e.0 ≢ name) waits → AllByRecursion May waits
+  no_more : (May Its : Asking I O → Type 0) (name : RecordName) → ((e : Asking I O) → Its e → e.0 ≡ name) → (waits : List (Asking I O)) → AllByRecursion (λ (e : Asking I O). May e ⊎ Its e) waits
+      → AllByRecursion (λ (e : Asking I O). e.0 ≢ name) waits → AllByRecursion May waits
   no_more May Its name named [] each away = tt
   no_more May Its name named (e ∷ waits) (inl may, each) away = (may, no_more May Its name named waits each away.1)
   no_more May Its name named (e ∷ waits) (inr its, each) away = absurd (away.0 (named e its))
 
-  one_or_none : (May Its : Asking I O → Type 0) (name : RecordName) → ((e : Asking I O) → Its e → e.0 ≡ name) → (waits : List (Asking I O)) → AllByRecursion (λ (e : Asking I O). May e ⊎ Its e) waits → OnePerName waits → AllByRecursion May waits ⊎ Taken May Its waits
+  one_or_none : (May Its : Asking I O → Type 0) (name : RecordName) → ((e : Asking I O) → Its e → e.0 ≡ name) → (waits : List (Asking I O))
+      → AllByRecursion (λ (e : Asking I O). May e ⊎ Its e) waits → OnePerName waits → AllByRecursion May waits ⊎ Taken May Its waits
   one_or_none May Its name named [] each apart = inl tt
   one_or_none May Its name named (e ∷ waits) (inr its, each) apart =
       let away = subst (λ (n : RecordName). AllByRecursion (λ (f : Asking I O). f.0 ≢ n) waits) (named e its) apart.0 in
@@ -88,7 +90,8 @@ module _ {I O : Type 0} where
   held : (track : Track I O) (others all : List (Track I O)) (waiting : List RecordName) → IsWith track others all → Holds (name_of track) (names_of others waiting) (names_of all waiting)
   held track others all waiting with = holds_longer (name_of track) (map name_of others) (map name_of all) waiting (holds_mapped name_of track others all (holds_of track others all with))
 
-  begun_name : (contents : O → Option (List ℕ)) (service : Service) (a : Account) (opened : List (Opening I O)) (book : BookMap) (track : Track I O) → Begins contents service a opened (book_of book) track → name_of track ≡ a.name
+  begun_name : (contents : O → Option (List ℕ)) (service : Service) (a : Account) (opened : List (Opening I O)) (book : BookMap) (track : Track I O)
+      → Begins contents service a opened (book_of book) track → name_of track ≡ a.name
   begun_name contents service a opened book (UnderWay later f) b = ap (λ (x : Account). x.name) b.later_is
   begun_name contents service a opened book (Delayed later) b = absurd b
   begun_name contents service a opened book (IsDone later standing) b = ap (λ (x : Account). x.name) b.1
@@ -133,12 +136,14 @@ module _ {J I O : Type 0} (P Q : Type 0) (h : Journals J) (received : I → Opti
   abbrev AllExpect : (Asking I O → Type 0) → List (Track I O) → Type 0
   AllExpect May tracks = AllByRecursion (Expects May) tracks
 
-  expects_more : (May More : Asking I O → Type 0) (name : RecordName) → ((e : Asking I O) → Except May name e → More e) → (track : Track I O) → name_of track ≢ name → Expects May track → Expects More track
+  expects_more : (May More : Asking I O → Type 0) (name : RecordName) → ((e : Asking I O) → Except May name e → More e) → (track : Track I O) → name_of track ≢ name → Expects May track
+      → Expects More track
   expects_more May More name more (UnderWay a f) apart (stream, set, may) = (stream, set, λ came formed. more (a.name, exchange_of f stream came) (may came formed, apart))
   expects_more May More name more (Delayed a) apart its = tt
   expects_more May More name more (IsDone a standing) apart its = tt
 
-  all_expect : (May More : Asking I O → Type 0) (name : RecordName) → ((e : Asking I O) → Except May name e → More e) → (tracks : List (Track I O)) (waiting : List RecordName) → AllByRecursion (λ n. n ≢ name) (names_of tracks waiting)
+  all_expect : (May More : Asking I O → Type 0) (name : RecordName) → ((e : Asking I O) → Except May name e → More e) → (tracks : List (Track I O)) (waiting : List RecordName)
+      → AllByRecursion (λ n. n ≢ name) (names_of tracks waiting)
       → AllExpect May tracks → AllExpect More tracks
   all_expect May More name more [] waiting away each = tt
   all_expect May More name more (track ∷ tracks) waiting away each = (expects_more May More name more track away.0 each.0, all_expect May More name more tracks waiting away.1 each.1)
@@ -159,11 +164,13 @@ module _ {J I O : Type 0} (P Q : Type 0) (h : Journals J) (received : I → Opti
       (its.0, its.1, apart_one (name_of track) (names_of others waiting) (names_of all waiting) (held track others all waiting with) apart)
 
   -- the record comes
-  comes : (track : Track I O) (others all : List (Track I O)) (name : RecordName) (waiting : List RecordName) (opened : List (Opening I O)) (book : BookMap) (May : Asking I O → Type 0) → IsWith track others all → name_of track ≡ name
+  comes : (track : Track I O) (others all : List (Track I O)) (name : RecordName) (waiting : List RecordName) (opened : List (Opening I O)) (book : BookMap) (May : Asking I O → Type 0)
+      → IsWith track others all → name_of track ≡ name
       → From opened all waiting book → AllExpect May others → AreOthers name (names_of others waiting) → Onward opened May name track book
   comes track others all name waiting opened book May with same from each away More its more =
       from More (all_of (Expects More) track others all (holds_of track others all with) its (all_expect May More name more others waiting away.0 each))
-      (apart_all (name_of track) (names_of others waiting) (names_of all waiting) (held track others all waiting with) (subst (λ (m : RecordName). AllByRecursion (λ n. n ≢ m) (names_of others waiting)) (sym same) away.0) away.1)
+      (apart_all (name_of track) (names_of others waiting) (names_of all waiting) (held track others all waiting with)
+      (subst (λ (m : RecordName). AllByRecursion (λ n. n ≢ m) (names_of others waiting)) (sym same) away.0) away.1)
 
   -- ---- an exchange is over
 
@@ -172,7 +179,8 @@ module _ {J I O : Type 0} (P Q : Type 0) (h : Journals J) (received : I → Opti
   heard a f May opened old new result (stream, set, may) learnt m =
       let asked = asked_of received posted (keeping_at base) f stream set (answer_in learnt.came) learnt.heard in
       elim (asked.spelled) [
-        | inl none ↦ subst (λ (b : BookMap). Makes opened May b) (unsent h base (text_of base f.request) f.request learnt.came (posted stream.1) asked.written old new asked.sent none learnt.becomes) (except May a.name opened new.book m)
+        | inl none ↦ subst (λ (b : BookMap). Makes opened May b) (unsent h base (text_of base f.request) f.request learnt.came (posted stream.1) asked.written old new asked.sent none learnt.becomes)
+            (except May a.name opened new.book m)
         | inr spells ↦
             let e : Asking I O = (a.name, exchange_of f stream learnt.came) in
             record {
@@ -190,13 +198,15 @@ module _ {J I O : Type 0} (P Q : Type 0) (h : Journals J) (received : I → Opti
   abbrev IsFor : Account → Flight I O → I × O → Asking I O → Type 0
   IsFor a f stream e = (came : Came) × IsFormed base (Asked f.request) × (e ≡ (a.name, exchange_of f stream came))
 
-  begun : (a : Account) (first opened : List (Opening I O)) (track : Track I O) (book : BookMap) (May : Asking I O → Type 0) → Begins posted (keeping_at base) a first (book_of book) track → Onward opened May a.name track book
+  begun : (a : Account) (first opened : List (Opening I O)) (track : Track I O) (book : BookMap) (May : Asking I O → Type 0) → Begins posted (keeping_at base) a first (book_of book) track
+      → Onward opened May a.name track book
       → Makes (first ++ opened) May book
   begun a first opened (UnderWay later f) book May s on =
       let name : later.name ≡ a.name = ap (λ (x : Account). x.name) s.later_is in
       let m = on (λ e. Except May a.name e ⊎ IsFor later f s.stream e) (s.stream, s.set_out, λ came formed. inr (came, formed, refl)) (λ e is. inl is) in
       elim (one_or_none (Except May a.name) (IsFor later f s.stream) a.name (λ e is. ap (λ (x : Asking I O). x.0) is.2 ∙ name) m.waits m.each m.apart) [
-        | inl all ↦ except May a.name (first ++ opened) book (skip first opened (Except May a.name) book (record { waits = m.waits; each = all; apart = m.apart; moves = m.moves; does = m.does; streams = m.streams }))
+        | inl all ↦ except May a.name (first ++ opened) book
+            (skip first opened (Except May a.name) book (record { waits = m.waits; each = all; apart = m.apart; moves = m.moves; does = m.does; streams = m.streams }))
         | inr t ↦
             let e : Asking I O = (later.name, exchange_of f s.stream t.its.0) in
             let away = all_weaker (Except May a.name) (λ (x : Asking I O). x.0 ≢ a.name) (λ x is. is.1) t.rest t.each in
@@ -222,7 +232,8 @@ module _ {J I O : Type 0} (P Q : Type 0) (h : Journals J) (received : I → Opti
   FromScene opened scene = From opened scene.tracks scene.waiting scene.state.book
 
   -- a track of a record takes the place of another
-  swapped : (x y : Track I O) (others : List (Track I O)) (opened : List (Opening I O)) (old new : Scene I O J) → IsWith x others old.tracks → IsWith y others new.tracks → name_of y ≡ name_of x → new.waiting ≡ old.waiting
+  swapped : (x y : Track I O) (others : List (Track I O)) (opened : List (Opening I O)) (old new : Scene I O J) → IsWith x others old.tracks → IsWith y others new.tracks → name_of y ≡ name_of x
+      → new.waiting ≡ old.waiting
       → FromScene opened new → (May : Asking I O → Type 0) → AllExpect May old.tracks → AreApart (names_in old) → Onward opened May (name_of x) y new.state.book
   swapped x y others opened old new before after named same from May each apart =
       let left = leaves x others old.tracks old.waiting May before each apart in
@@ -231,7 +242,8 @@ module _ {J I O : Type 0} (P Q : Type 0) (h : Journals J) (received : I → Opti
   expected : (track : Track I O) (others all : List (Track I O)) (May : Asking I O → Type 0) → IsWith track others all → AllExpect May all → Expects May track
   expected track others all May with each = (one_of (Expects May) track others all (holds_of track others all with) each).0
 
-  move_more : (first opened : List (Opening I O)) (told : List Done) (old new : Scene I O J) → IsMove received posted h (keeping_at base) window first told old new → FromScene opened new → FromScene (first ++ opened) old
+  move_more : (first opened : List (Opening I O)) (told : List Done) (old new : Scene I O J) → IsMove received posted h (keeping_at base) window first told old new → FromScene opened new
+      → FromScene (first ++ opened) old
   move_more first opened told old new (inl b) from May each apart =
       let so : AreApart (map name_of old.tracks ++ b.name ∷ new.waiting) = subst (λ (l : List RecordName). AreApart (map name_of old.tracks ++ l)) b.waiting apart in
       let away = apart_one b.name (names_of old.tracks new.waiting) (map name_of old.tracks ++ b.name ∷ new.waiting) (holds_at b.name (map name_of old.tracks) new.waiting) so in
@@ -242,11 +254,13 @@ module _ {J I O : Type 0} (P Q : Type 0) (h : Journals J) (received : I → Opti
       let a = faulted c.fault c.account in
       let x : Track I O = UnderWay c.account c.flight in
       let named = begun_name posted (keeping_at base) a first new.state.book c.track c.begins in
-      heard c.account c.flight May (first ++ opened) old.state new.state (Ok c.fault) (expected x c.others old.tracks May c.before each) c.learnt (begun a first opened c.track new.state.book (Except May c.account.name) c.begins
+      heard c.account c.flight May (first ++ opened) old.state new.state (Ok c.fault) (expected x c.others old.tracks May c.before each) c.learnt
+      (begun a first opened c.track new.state.book (Except May c.account.name) c.begins
       (λ More its more. swapped x c.track c.others opened old new c.before c.after named c.waiting from May each apart More its (λ e is. more e (is, is.1))))
   move_more first opened told old new (inr (inr (inl d))) from May each apart =
       let x : Track I O = UnderWay d.account d.flight in
-      heard d.account d.flight May (first ++ opened) old.state new.state (Ok d.fault) (expected x d.others old.tracks May d.before each) d.learnt (skip first opened (Except May d.account.name) new.state.book
+      heard d.account d.flight May (first ++ opened) old.state new.state (Ok d.fault) (expected x d.others old.tracks May d.before each) d.learnt
+      (skip first opened (Except May d.account.name) new.state.book
       (swapped x (Delayed (put_off (faulted d.fault d.account))) d.others opened old new d.before d.after refl d.waiting from May each apart (Except May d.account.name) tt (λ e is. is)))
   move_more first opened told old new (inr (inr (inr (inl r)))) from May each apart =
       let named = begun_name posted (keeping_at base) r.account first old.state.book r.track r.begins in
@@ -261,7 +275,8 @@ module _ {J I O : Type 0} (P Q : Type 0) (h : Journals J) (received : I → Opti
 
   -- ---- moves
 
-  moves_more : (points : List (Point I O J)) (first opened : List (Opening I O)) (told : List Done) (old new : Scene I O J) → AreMoves received posted h (keeping_at base) window points first told old new → FromScene opened new → FromScene (first ++ opened) old
+  moves_more : (points : List (Point I O J)) (first opened : List (Opening I O)) (told : List Done) (old new : Scene I O J)
+      → AreMoves received posted h (keeping_at base) window points first told old new → FromScene opened new → FromScene (first ++ opened) old
   moves_more [] first opened told old new (none, silent, same) from May each apart =
       on_streams (first ++ opened) opened May old.state.book (ap (λ (l : List (Opening I O)). l ++ opened) none)
       (subst (λ (s : Scene I O J). AllExpect May s.tracks → AreApart (names_in s) → Makes opened May s.state.book) same (from May) each apart)
@@ -271,7 +286,8 @@ module _ {J I O : Type 0} (P Q : Type 0) (h : Journals J) (received : I → Opti
 
   -- ---- each answer that is under way is learnt from
 
-  closed : (track : Track I O) (May : Asking I O → Type 0) (opened : List (Opening I O)) (old new : Connector J) (result : Result (Unit {0}) RunFault) → Expects May track → Closes received h (keeping_at base) track old new result
+  closed : (track : Track I O) (May : Asking I O → Type 0) (opened : List (Opening I O)) (old new : Connector J) (result : Result (Unit {0}) RunFault) → Expects May track
+      → Closes received h (keeping_at base) track old new result
       → Makes opened (Except May (name_of track)) new.book → Makes opened May old.book
   closed (UnderWay a f) May opened old new (Ok done) its closes m = heard a f May opened old new (Ok closes.0) its closes.1 m
   closed (UnderWay a f) May opened old new (Err fault) its closes m = heard a f May opened old new (Err fault) its closes m
@@ -285,7 +301,8 @@ module _ {J I O : Type 0} (P Q : Type 0) (h : Journals J) (received : I → Opti
   at_end : Ends [] last
   at_end May = record { waits = []; each = tt; apart = tt; moves = []; does = (refl, refl); streams = tt }
 
-  looked : (tracks : List (Track I O)) (waiting : List RecordName) (old new : Connector J) → LooksThrough received h (keeping_at base) tracks old new → Ends [] new.book → From [] tracks waiting old.book
+  looked : (tracks : List (Track I O)) (waiting : List RecordName) (old new : Connector J) → LooksThrough received h (keeping_at base) tracks old new → Ends [] new.book
+      → From [] tracks waiting old.book
   looked [] waiting old new same ends May each apart = on_book [] May old new same (ends May)
   looked (track ∷ tracks) waiting old new l ends May each apart =
       let others : Asking I O → Type 0 = Except May (name_of track) in
@@ -293,7 +310,8 @@ module _ {J I O : Type 0} (P Q : Type 0) (h : Journals J) (received : I → Opti
 
   -- ---- what ends a run
 
-  advanced : (track : Track I O) (May : Asking I O → Type 0) (opened : List (Opening I O)) (old new : Connector J) (fault : RunFault) → Expects May track → Advances received posted h (keeping_at base) track opened old new (Err fault)
+  advanced : (track : Track I O) (May : Asking I O → Type 0) (opened : List (Opening I O)) (old new : Connector J) (fault : RunFault) → Expects May track
+      → Advances received posted h (keeping_at base) track opened old new (Err fault)
       → Makes opened (Except May (name_of track)) new.book → Makes opened May old.book
   advanced (UnderWay a f) May opened old new fault its (inl c) m = heard a f May opened old new (Ok c.fault) its c.learnt m
   advanced (UnderWay a f) May opened old new fault its (inr (inl d)) m = absurd (cc d.result_is)
@@ -301,13 +319,15 @@ module _ {J I O : Type 0} (P Q : Type 0) (h : Journals J) (received : I → Opti
   advanced (Delayed a) May opened old new fault its (same, goes) m = on_book opened May old new same (except May a.name opened new.book m)
   advanced (IsDone a standing) May opened old new fault its (none, same, is) m = absurd (cc is)
 
-  reported : (opened : List (Opening I O)) (scene : Scene I O J) (rest : List (Track I O)) (new : Connector J) (a : Account) (standing : Standing) → IsWith (IsDone a standing) rest scene.tracks → new ≡ scene.state
+  reported : (opened : List (Opening I O)) (scene : Scene I O J) (rest : List (Track I O)) (new : Connector J) (a : Account) (standing : Standing) → IsWith (IsDone a standing) rest scene.tracks
+      → new ≡ scene.state
       → From [] rest scene.waiting new.book → FromScene opened scene
   reported opened scene rest new a standing with same from May each apart =
       let left = leaves (IsDone a standing) rest scene.tracks scene.waiting May with each apart in
       unopened opened May scene.state.book (on_book [] May scene.state new same (from May left.1 left.2.1))
 
-  caused : (opened : List (Opening I O)) (scene : Scene I O J) (rest : List (Track I O)) (new : Connector J) (fault : RunFault) → Causes received posted h (keeping_at base) window opened scene rest new fault
+  caused : (opened : List (Opening I O)) (scene : Scene I O J) (rest : List (Track I O)) (new : Connector J) (fault : RunFault)
+      → Causes received posted h (keeping_at base) window opened scene rest new fault
       → From [] rest scene.waiting new.book → FromScene opened scene
   caused opened scene rest new fault (inl c) from May each apart =
       let left = subst (λ (l : List (Track I O)). AllExpect May l × AreApart (names_of l scene.waiting)) (sym c.0) (each, apart) in
@@ -356,7 +376,8 @@ module _ {J I O : Type 0} (P Q : Type 0) (h : Journals J) (received : I → Opti
   abreast_moved limit names opened old new before after (Err fault) apart part May =
       part_moved P Q h received posted base window new.book limit names opened old new fault apart part (at_end P Q h received posted base window new.book) May
 
-  both_moved : (limit : ℕ) (users groups : List RecordName) (opened : List (Opening I O)) (old new : Connector J) (before after : Option (List Done)) (result : Result Tally RunFault) → AreApart users → AreApart groups
+  both_moved : (limit : ℕ) (users groups : List RecordName) (opened : List (Opening I O)) (old new : Connector J) (before after : Option (List Done)) (result : Result Tally RunFault)
+      → AreApart users → AreApart groups
       → PushesBoth received posted h (keeping_at base) window limit users groups opened old new before after result → Ends P Q h received posted base window new.book opened old.book
   both_moved limit users groups opened old new before after result apart away (inl b) May =
       on_streams P Q h received posted base window new.book opened (b.0 ++ b.1) May old.book b.6

@@ -31,6 +31,7 @@ use Rattle.world_model.specs.World.{Asked, Answered, World, empty}
 use Rattle.world_model.specs.Invariant.{AllOurs, Names, all_names}
 use Rattle.world_model.specs.Others.{HeadlineAmong, LeavesAlone, run_among}
 use Rattle.world_model.specs.Safe.{id_in, rows as world_rows}
+use Rattle.world_model.proofs.Headlines.{apart_early}
 use Rattle.world_model.proofs.Invariant.{always_inv_among}
 use Rattle.world_sim.proofs.Fitting.{messages_are_read_among}
 use Rattle.world_sim.proofs.Given.{asked_fairly}
@@ -39,7 +40,7 @@ use Rattle.promise.specs.AmongTyped as typed
 use Rattle.promise.specs.AmongTyped.{HasOurs}
 use Rattle.promise.specs.Traces.{AreRuns, IsAt, IsAtFront, LeavesBook, Promised, State, Step, Step.offers, Step.asks, Step.serves, Step.hears, Step.doubts, Step.reopens, Step.rests, Trace, Trace.here as alone_here, Trace.next as alone_next, TracesAreRuns, id_among, start}
 use Rattle.promise.specs.Typed as own
-use Rattle.promise.proofs.AmongTyped.{Keeps, all_named, are_ours, changes_keep, early_apart, ran, rows_ours, typed_traces_are_runs_among}
+use Rattle.promise.proofs.AmongTyped.{Keeps, all_named, are_ours, changes_keep, ran, rows_ours, typed_traces_are_runs_among}
 use Rattle.promise.proofs.Traces.{Did, Did.gave_up, Did.refused, Did.answered_it, Did.stopped, IsRead, Settles, Spoken, did, goes, mirrored, spoken_start, unread}
 use Rattle.promise.proofs.Typed.{at_start, changed_names, keys-empty}
 
@@ -248,7 +249,7 @@ module _ {R J I O P Q : Type 0} (g : Registries R) (h : Journals J) (received : 
         before = before;
         after = after;
         headline = runs.headline;
-        promised = promised_among ours w v s t (always_inv_among ours runs.early (early_apart ours runs.early runs.late runs.apart)).kept.whole before after runs.headline;
+        promised = promised_among ours w v s t (always_inv_among ours runs.early (apart_early ours runs.early runs.late runs.apart)).kept.whole before after runs.headline;
       }
 
   -- ---- without others

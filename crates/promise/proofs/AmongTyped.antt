@@ -18,23 +18,23 @@ use Rattle.provider_core.specs.Stories.{Entry, Numbered, entry_with_id, reading_
 use Rattle.provider_core.proofs.StoryLaws.{rows_follow_stories}
 use Rattle.source_csv.specs.Records.{row_name}
 use Rattle.source_csv.specs.declared.rows.Row.{Row}
-use Rattle.connector_core.specs.Asking.{asking}
 use Rattle.connector_core.specs.Changing.{history_after, names_of, names_with}
-use Rattle.connector_core.specs.History.{History}
+use Rattle.connector_core.specs.History.{History, same_name, rows_of}
 use Rattle.connector_core.specs.Maps.{BookMap}
 use Rattle.connector_core.specs.declared.accepting.Verdict.{Verdict}
 use Rattle.connector_core.specs.declared.accepting.Verdict.TheVariants as verdicts
-use Rattle.connector_core.specs.declared.asking.Ask.{Ask}
-use Rattle.connector_core.specs.declared.asking.Ask.TheVariants.{Nothing, Waits, Send}
 use Rattle.connector_core.specs.declared.changing.ChangeFault.{ChangeFault}
-use Rattle.world_model.specs.World.{World, Message, Asked, Answered, Event, Changes, Sends, Delivers, Cuts, Restarts_provider, Restarts_connector, Doubts, changes, delivers, empty, happens, judged, message_at, run, sends}
+use Rattle.world_model.specs.World.{World, Event, Changes, Sends, Delivers, Cuts, Restarts_provider, Restarts_connector, Doubts, changes, empty, happens, judged, run}
 use Rattle.world_model.specs.Safe.{Has, Headline, IsAt}
 use Rattle.world_model.specs.Untroubled.{IsLawful}
 use Rattle.world_model.specs.Invariant.{AllOurs, Names, all_names}
 use Rattle.world_model.specs.Others.{Act, Ours, Theirs, IsApart, KeepsApart, LeavesAlone, acts, run_among}
 use Rattle.world_model.specs.Room.{IsLawfulAct}
-use Rattle.world_model.proofs.Headlines.{headline_holds, headline_holds_among}
+use Rattle.world_model.proofs.Headlines.{apart_early, headline_holds, headline_holds_among}
+use Rattle.world_model.proofs.Lists.{kept_has}
+use Rattle.world_model.proofs.Onwards.{among-append, among_on}
 use Rattle.world_model.proofs.Others.{without_others}
+use Rattle.world_model.proofs.Ranking.{row_there}
 use Rattle.promise.specs.Typed.{Mirrors, State, Trace, Trace.here as alone_here, Trace.next as alone_next, TypedTracesAreRuns, start}
 use Rattle.promise.specs.AmongTyped.{HasOurs, StepAmong, StepAmong.mine, StepAmong.theirs, TraceAmong, TraceAmong.here, TraceAmong.next, TypedTracesAreRunsAmong}
 use Rattle.promise.proofs.Lists.{all_both, has_last, has_more}
@@ -93,10 +93,6 @@ module _ (ours : Names) where
   leads_among old new w (mine step) m = by_events w new (leads old new w step m)
   leads_among old new w (theirs request alone) m = by_theirs old w request alone m
 
-  run-append : (w : World) (early late : List Act) → run_among w (early ++ late) ≡ run_among (run_among w early) late
-  run-append w [] late = refl
-  run-append w (act ∷ early) late = run-append (acts w act) early late
-
   traced_among : (old new : State) (w : World) → TraceAmong ours old new → Mirrors old w → LeadsAmong ours w new
   traced_among old new w here m = record { led = []; lawful = tt; alone = tt; mirrors = m }
   traced_among old new w (next {mid = mid} trace step) m =
@@ -106,7 +102,7 @@ module _ (ours : Names) where
         led = first.led ++ last.led;
         lawful = all_both IsLawfulAct first.led last.led first.lawful last.lawful;
         alone = all_both (AreAlone ours) first.led last.led first.alone last.alone;
-        mirrors = subst (Mirrors new) (sym (run-append w first.led last.led)) last.mirrors;
+        mirrors = subst (Mirrors new) (sym (among-append w first.led last.led)) last.mirrors;
       }
 
 -- ---- a row that isn't accepted changes nothing, so it may as well not be offered
@@ -120,33 +116,11 @@ changes_keep history row (Ok verdicts.Known) r has = has
 changes_keep history row (Ok verdicts.Older) r has = has
 changes_keep history row (Err fault) r has = has
 
-sends_keep : (w : World) (o : Option Ask) → Keeps w.history (sends w o).history
-sends_keep w None r has = has
-sends_keep w (Some Nothing) r has = has
-sends_keep w (Some (Waits member)) r has = has
-sends_keep w (Some (Send request)) r has = has
-
-delivers_keep : (w : World) (o : Option Message) → Keeps w.history (delivers w o).history
-delivers_keep w None r has = has
-delivers_keep w (Some (Asked request)) r has = has
-delivers_keep w (Some (Answered request answer)) r has = has
-
-event_keeps : (w : World) (event : Event) → Keeps w.history (happens w event).history
-event_keeps w (Changes row) = changes_keep w.history row (judged w row)
-event_keeps w (Sends name) = sends_keep w (asking w.book name)
-event_keeps w (Delivers number) = delivers_keep w (message_at w.messages number)
-event_keeps w (Cuts number length) = λ r has. has
-event_keeps w Restarts_provider = λ r has. has
-event_keeps w Restarts_connector = λ r has. has
-event_keeps w (Doubts name) = λ r has. has
-
-act_keeps : (w : World) (act : Act) → Keeps w.history (acts w act).history
-act_keeps w (Ours event) = event_keeps w event
-act_keeps w (Theirs request) = λ r has. has
-
 led_keep : (w : World) (led : List Act) → Keeps w.history (run_among w led).history
-led_keep w [] r has = has
-led_keep w (act ∷ led) r has = led_keep (acts w act) led r (act_keeps w act r has)
+led_keep w led row has =
+    let here = kept_has (λ r. same_name (row_name r) (row_name row)) w.history has.0 row has.1 ((same_names (row_name row) (row_name row)).1 refl) in
+    let on = (among_on w led).rows (row_name row) in
+    row_there (run_among w led).history (row_name row) row (subst (λ (rows : List Row). Has rows row) (sym on.1) (has_more (rows_of w.history (row_name row)) on.0 row here))
 
 -- acts that keep apart lead to the same world
 record LeadsApart (ours : Names) (w : World) (led : List Act) : Type 0 where
@@ -248,11 +222,6 @@ ours_early ours old new trace more all row has =
     all row (subst (λ (h : History). Has h row) (sym then_.mirrors.history)
     (led_keep (run_among empty first.led) then_.led row (subst (λ (h : History). Has h row) first.mirrors.history has)))
 
--- what an early part does keeps apart too
-pub early_apart : (ours : Names) (early late : List Act) → KeepsApart ours (early ++ late) → KeepsApart ours early
-early_apart ours [] late apart = tt
-early_apart ours (act ∷ early) late apart = (apart.0, early_apart ours early late apart.1)
-
 pub typed_traces_are_runs_among : TypedTracesAreRunsAmong
 typed_traces_are_runs_among ours s t known trace more =
     let so_far = traced_among ours start s empty trace at_start in
@@ -267,7 +236,7 @@ typed_traces_are_runs_among ours s t known trace more =
       apart = apart;
       lawful = all_both IsLawfulAct first.led then_.led first.lawful then_.lawful;
       before = first.mirrors;
-      after = subst (Mirrors t) (sym (run-append ours empty first.led then_.led)) then_.mirrors;
+      after = subst (Mirrors t) (sym (among-append empty first.led then_.led)) then_.mirrors;
       headline = headline_holds_among ours first.led then_.led apart;
     }
 
@@ -324,7 +293,7 @@ are_ours early late apart law = record {
   first = ours_in early;
   more = ours_in late;
   lawful = subst (AllByRecursion IsLawful) (ours_both early late) (ours_lawful (early ++ late) law);
-  before = ours_same empty early (early_apart all_names early late apart);
+  before = ours_same empty early (apart_early all_names early late apart);
   after = ours_same empty (early ++ late) apart ∙ ap (run empty) (ours_both early late);
   headline = headline_holds (ours_in early) (ours_in late);
 }

@@ -38,10 +38,6 @@ one_of F x others (y ∷ all) (inl (same, are)) each = (subst F (sym same) each.
 one_of F x others (y ∷ all) (inr (rest, are, holds)) each =
     let more = one_of F x rest all holds each.1 in (more.0, subst (AllByRecursion F) (sym are) (each.0, more.1))
 
-pub all_front : {X : Type 0} (F : X → Type 0) (xs ys : List X) → AllByRecursion F (xs ++ ys) → AllByRecursion F xs
-all_front F [] ys each = tt
-all_front F (x ∷ xs) ys each = (each.0, all_front F xs ys each.1)
-
 pub all_weaker : {X : Type 0} (F G : X → Type 0) → ((x : X) → F x → G x) → (xs : List X) → AllByRecursion F xs → AllByRecursion G xs
 all_weaker F G weaker [] each = tt
 all_weaker F G weaker (x ∷ xs) each = (weaker x each.0, all_weaker F G weaker xs each.1)

@@ -12,7 +12,8 @@ use Rattle.std.specs.Prelude.{T}
 use Rattle.scim_key.specs.RecordOrder.{names_total}
 use Rattle.scim_key.specs.Records.{name_cmp}
 use Rattle.scim_key.specs.declared.records.RecordName.{RecordName}
-use Rattle.promise.proofs.Bags.{AreApart, all_front, all_weaker}
+use Rattle.world_sim.proofs.WholeRuns.{all_front}
+use Rattle.promise.proofs.Bags.{AreApart, all_weaker}
 
 -- ---- the keys of a map
 

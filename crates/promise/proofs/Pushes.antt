@@ -27,15 +27,12 @@ use Rattle.provisioning.specs.declared.records.Pushed.{Pushed}
 use Rattle.provisioning.specs.declared.sources.Source.{Source}
 use Rattle.provisioning.specs.declared.sources.Sources.{Sources}
 use Rattle.provisioning.specs.Services.{keeping_at}
+use Rattle.world_sim.proofs.WholeRuns.{all_back, all_front}
 use Rattle.promise.specs.Calls.{Asking}
 use Rattle.promise.specs.Moves.{AreAmong, IsPush, MayAsk, Move, Move.offers, Move.asks, Move.hears, Move.serves, PushDoes, rows_if, rows_of_files, streams_in}
 use Rattle.promise.proofs.Calls.{unsent}
 
 -- ---- lists
-
-all_split : {X : Type 0} (F : X → Type 0) (xs ys : List X) → AllByRecursion F (xs ++ ys) → AllByRecursion F xs × AllByRecursion F ys
-all_split F [] ys all = (tt, all)
-all_split F (x ∷ xs) ys all = let more = all_split F xs ys all.1 in ((all.0, more.0), more.1)
 
 pub among_skip : {X : Type 0} (first xs all : List X) → AreAmong xs all → AreAmong xs (first ++ all)
 among_skip first [] all are = tt
@@ -189,12 +186,13 @@ module _ {J I O : Type 0} (P Q : Type 0) (h : Journals J) (received : I → Opti
   offers_made : (sources : Sources) (old new : Connector J) (before after : Option (List Judged)) (result : Result Bool RunFault)
       → OffersAll h sources old new before after result → AllByRecursion IsRow (rows_of_files sources) → Makes [] old.book new.book
   offers_made sources old new before after result so all =
-      let split = all_split IsRow (rows_in (records_of sources.users)) (rows_if sources.groups) all in
+      let users = all_front IsRow (rows_in (records_of sources.users)) (rows_if sources.groups) all in
+      let groups = all_back IsRow (rows_in (records_of sources.users)) (rows_if sources.groups) all in
       elim so [
         | inl two ↦ both [] [] old.book two.0.book new.book
-            (file_made sources.users.kind (records_of sources.users) old two.0 before two.1 (Ok two.2) two.4 split.0)
-            (groups_made sources.groups two.0 new two.1 after two.3 two.5 split.1)
-        | inr one ↦ file_made sources.users.kind (records_of sources.users) old new before after (Err one.0) one.1 split.0
+            (file_made sources.users.kind (records_of sources.users) old two.0 before two.1 (Ok two.2) two.4 users)
+            (groups_made sources.groups two.0 new two.1 after two.3 two.5 groups)
+        | inr one ↦ file_made sources.users.kind (records_of sources.users) old new before after (Err one.0) one.1 users
       ]
 
   -- ---- the rows, and then the exchanges

@@ -23,7 +23,7 @@ use Rattle.source_csv.specs.declared.rows.Row.{Row}
 use Rattle.journal_core.specs.Entries.{EntryMap}
 use Rattle.connector_core.specs.Asking.{asking}
 use Rattle.connector_core.specs.Book.{Book, doubted, reopened, undoubted, wanting}
-use Rattle.connector_core.specs.Changing.{accepted_map, book_after, history_after, judged, judging, names_of, names_with, taking}
+use Rattle.connector_core.specs.Changing.{accepted_map, book_after, history_after, judged, judging, names_of, taking}
 use Rattle.connector_core.specs.History.{History}
 use Rattle.connector_core.specs.Learning.{Finding, Taken, Stale, after_learning, finding, learn, lesson, noted, or_fault, refused_by, subject}
 use Rattle.connector_core.specs.Maps.{BookMap, book_of}
@@ -40,14 +40,11 @@ use Rattle.connector_core.proofs.LawProofs.{maps_accept}
 use Rattle.world_model.specs.World.{World, Message, Asked, Answered, Event, Changes, Sends, Delivers, Doubts, Restarts_connector, arrives, changes, delivers, empty, happens, judged as world_judged, run, sends}
 use Rattle.world_model.specs.Safe.{Has}
 use Rattle.world_model.specs.Untroubled.{IsLawful}
+use Rattle.world_model.proofs.Counting.{names_push}
 use Rattle.promise.specs.Typed.{IsOtherError, Mirrors, Reply, State, Step, Step.offers, Step.asks, Step.answers, Step.learns, Step.refused, Step.doubts, Step.reopens, Step.relearns, Step.rests, start}
 use Rattle.promise.proofs.Lists.{each_more, has_last, has_more}
 
 -- ---- the names of the records
-
-names_push : (names : List RecordName) (history : History) (row : Row) → names_with names (history ++ row ∷ []) ≡ insert_key name_cmp (names_with names history) (row_name row)
-names_push names [] row = refl
-names_push names (r ∷ history) row = names_push (insert_key name_cmp names (row_name r)) history row
 
 pub changed_names : (m : BookMap) (history : History) (row : Row) (verdict : Result Verdict ChangeFault) → keys m ≡ names_of history → keys (accepted_map m row verdict) ≡ names_of (history_after history row verdict)
 changed_names m history row (Ok verdicts.New) same = names-put m (row_name row) (wanting (get m (row_name row)) row) ∙ ap (λ names. insert_key name_cmp names (row_name row)) same ∙ sym (names_push [] history row)
