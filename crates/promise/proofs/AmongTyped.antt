@@ -35,9 +35,10 @@ use Rattle.world_model.proofs.Lists.{kept_has}
 use Rattle.world_model.proofs.Onwards.{among-append, among_on}
 use Rattle.world_model.proofs.Others.{without_others}
 use Rattle.world_model.proofs.Ranking.{row_there}
+use Rattle.world_sim.proofs.SettlingLemmas.{all-append}
 use Rattle.promise.specs.Typed.{Mirrors, State, Trace, Trace.here as alone_here, Trace.next as alone_next, TypedTracesAreRuns, start}
 use Rattle.promise.specs.AmongTyped.{HasOurs, StepAmong, StepAmong.mine, StepAmong.theirs, TraceAmong, TraceAmong.here, TraceAmong.next, TypedTracesAreRunsAmong}
-use Rattle.promise.proofs.Lists.{all_both, has_last, has_more}
+use Rattle.promise.proofs.Lists.{all_mapped, has_last, has_more}
 use Rattle.promise.proofs.Typed.{Leads, at_start, leads}
 
 -- ---- acts lead from one world to one that the state mirrors
@@ -54,10 +55,6 @@ pub record LeadsAmong (ours : Names) (w : World) (new : State) : Type 0 where
   pub mirrors : Mirrors new (run_among w led)
 
 module _ (ours : Names) where
-  events_lawful : (events : List Event) → AllByRecursion IsLawful events → AllByRecursion IsLawfulAct (map Ours events)
-  events_lawful [] law = tt
-  events_lawful (event ∷ events) law = (law.0, events_lawful events law.1)
-
   events_alone : (events : List Event) → AllByRecursion (AreAlone ours) (map Ours events)
   events_alone [] = tt
   events_alone (event ∷ events) = (tt, events_alone events)
@@ -65,7 +62,7 @@ module _ (ours : Names) where
   by_events : (w : World) (new : State) → Leads w new → LeadsAmong ours w new
   by_events w new l = record {
     led = map Ours l.events;
-    lawful = events_lawful l.events l.lawful;
+    lawful = all_mapped IsLawfulAct Ours l.events l.lawful;
     alone = events_alone l.events;
     mirrors = subst (Mirrors new) (sym (without_others.runs w l.events)) l.mirrors;
   }
@@ -100,8 +97,8 @@ module _ (ours : Names) where
       let last = leads_among mid new (run_among w first.led) step first.mirrors in
       record {
         led = first.led ++ last.led;
-        lawful = all_both IsLawfulAct first.led last.led first.lawful last.lawful;
-        alone = all_both (AreAlone ours) first.led last.led first.alone last.alone;
+        lawful = all-append IsLawfulAct first.led last.led first.lawful last.lawful;
+        alone = all-append (AreAlone ours) first.led last.led first.alone last.alone;
         mirrors = subst (Mirrors new) (sym (among-append w first.led last.led)) last.mirrors;
       }
 
@@ -229,12 +226,12 @@ typed_traces_are_runs_among ours s t known trace more =
     let all : AllOurs ours t.history = rows_ours ours t.book t.history (mirrors.names ∙ ap names_of (sym mirrors.history)) known in
     let first = ran ours start s empty (ours_early ours s t trace more all) trace at_start in
     let then_ = ran ours s t (run_among empty first.led) all more first.mirrors in
-    let apart = all_both (IsApart ours) first.led then_.led first.apart then_.apart in
+    let apart = all-append (IsApart ours) first.led then_.led first.apart then_.apart in
     record {
       early = first.led;
       late = then_.led;
       apart = apart;
-      lawful = all_both IsLawfulAct first.led then_.led first.lawful then_.lawful;
+      lawful = all-append IsLawfulAct first.led then_.led first.lawful then_.lawful;
       before = first.mirrors;
       after = subst (Mirrors t) (sym (among-append empty first.led then_.led)) then_.mirrors;
       headline = headline_holds_among ours first.led then_.led apart;

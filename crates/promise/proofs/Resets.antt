@@ -33,9 +33,7 @@ use Rattle.connector_core.specs.State.{AreOf, IsOpened, entry_of, opened}
 use Rattle.connector_core.specs.declared.knowledge.Known.{Known}
 use Rattle.world_model.specs.World.{World, Asked, Answered, empty}
 use Rattle.world_model.specs.Invariant.{AllOurs, Names, all_names}
-use Rattle.world_model.specs.Others.{Act, KeepsApart}
-use Rattle.world_model.specs.Resetting.{Does, Forgets, Happening, IsLawfulHappening, StayApart, opened_after, reset_book, run_through, undergoes}
-use Rattle.world_model.specs.Room.{IsLawfulAct}
+use Rattle.world_model.specs.Resetting.{Does, Forgets, Happening, IsLawfulHappening, StayApart, StaysApart, opened_after, reset_book, run_through, undergoes}
 use Rattle.world_model.proofs.Durable.{start_durable}
 use Rattle.world_model.proofs.InOrder.{empty_is_start}
 use Rattle.world_model.proofs.Resetting.{through_durable}
@@ -51,7 +49,8 @@ use Rattle.promise.specs.Typed as own
 use Rattle.promise.proofs.AmongTraces.{GoesAmong, mine_keeps, mine_named, promised_among, theirs_step}
 use Rattle.promise.proofs.AmongTyped.{Keeps, ran, rows_ours}
 use Rattle.promise.proofs.Calls.{entries_of, offers_are_steps}
-use Rattle.promise.proofs.Lists.{all_both}
+use Rattle.promise.proofs.Lists.{all_mapped}
+use Rattle.world_sim.proofs.SettlingLemmas.{all-append}
 use Rattle.promise.proofs.Traces.{IsRead, Settles, Spoken, goes, mirrored, spoken_start}
 use Rattle.promise.proofs.Typed.{at_start, keys-empty, rebooked}
 
@@ -160,18 +159,6 @@ reset_mirrors old w m these found kept book are reset is =
 
 -- ---- a story that the state mirrors
 
-acts_apart : (ours : Names) (led : List Act) → KeepsApart ours led → StayApart ours (map Does led)
-acts_apart ours [] apart = tt
-acts_apart ours (act ∷ led) apart = (apart.0, acts_apart ours led apart.1)
-
-acts_lawful : (led : List Act) → AllByRecursion IsLawfulAct led → AllByRecursion IsLawfulHappening (map Does led)
-acts_lawful [] law = tt
-acts_lawful (act ∷ led) law = (law.0, acts_lawful led law.1)
-
-apart_both : (ours : Names) (one two : List Happening) → StayApart ours one → StayApart ours two → StayApart ours (one ++ two)
-apart_both ours [] two first last = last
-apart_both ours (happening ∷ one) two first last = (first.0, apart_both ours one two first.1 last)
-
 -- a trace over bytes came to this state by a story, which a state of requests and answers mirrors
 record Told (base : List ℕ) (ours : Names) (s : State) (story : List Happening) : Type 0 where
   state : own.State
@@ -211,8 +198,8 @@ module _ (base : List ℕ) (ours : Names) (is_base : IsBase base) where
         told = record {
           state = on.later;
           spoken = on.spoken;
-          apart = apart_both ours story (map Does r.led) a.apart (acts_apart ours r.led r.apart);
-          lawful = all_both IsLawfulHappening story (map Does r.led) a.lawful (acts_lawful r.led r.lawful);
+          apart = all-append (StaysApart ours) story (map Does r.led) a.apart (all_mapped (StaysApart ours) Does r.led r.apart);
+          lawful = all-append IsLawfulHappening story (map Does r.led) a.lawful (all_mapped IsLawfulHappening Does r.led r.lawful);
           mirrors = subst (own.Mirrors on.later) (sym (through-append empty story (map Does r.led) ∙ without_resets w r.led)) r.mirrors;
         };
       }
@@ -229,8 +216,8 @@ module _ (base : List ℕ) (ours : Names) (is_base : IsBase base) where
         told = record {
           state = record u { book = book };
           spoken = record { rows = a.spoken.rows; history = a.spoken.history; book = refl; sent = a.spoken.sent; formed = a.spoken.formed; written = a.spoken.written };
-          apart = apart_both ours story (Forgets these ∷ []) a.apart (tt, tt);
-          lawful = all_both IsLawfulHappening story (Forgets these ∷ []) a.lawful (tt, tt);
+          apart = all-append (StaysApart ours) story (Forgets these ∷ []) a.apart (tt, tt);
+          lawful = all-append IsLawfulHappening story (Forgets these ∷ []) a.lawful (tt, tt);
           mirrors = subst (own.Mirrors (record u { book = book })) (sym (through-append empty story (Forgets these ∷ []))) mirrors;
         };
       }
