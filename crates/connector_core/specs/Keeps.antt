@@ -76,12 +76,12 @@ says name content s = same_name name (content_name s.content) && same_flag (is_a
 abbrev pub unseen : Lesson → Lesson
 unseen l = record { known = forgotten l.known; learnt = l.learnt }
 
--- what stands in the place of a version that isn't shown
+-- the tag under which a resource is taken if none is shown
 abbrev pub no_version : List ℕ
 no_version = version_tag NO_VERSION
 
--- What is learnt from a resource with this tag, if it has one. Without a tag all is learnt that is learnt under any, but
--- the resource isn't in sight: the next change searches for it first
+-- What is learnt from a resource with this tag, if it has one. Without a tag it is what is learnt under
+-- `no_version`, but the resource isn't in sight: the next change searches for it first
 abbrev pub lesson_under : (tag : Option (List ℕ)) → Book → RecordName → Known → ShownRecord → Result Lesson LearnFault
 lesson_under (Some tag) book name known s = shown_lesson book name known s
 lesson_under None book name known s = shown_lesson book name known (shown_under no_version s) >>= λ l. Ok (unseen l)

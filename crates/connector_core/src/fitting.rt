@@ -357,8 +357,8 @@ fn unseen(known: &Known, news: News) -> News
     }
 }
 
-/// The news from a shown resource without an entity tag that stands for a content: all that is learnt under any tag, but
-/// the resource isn't in sight.
+/// The news from a shown resource without an entity tag that stands for a content: what is learnt under the tag that is
+/// taken if none is shown, but the resource isn't in sight.
 fn untagged_as(
     alloc: Global,
     book: &Book,

@@ -10,5 +10,5 @@ pub enum Keeps {
     Versions,
 }
 
-/// The version that stands in the place of one that isn't shown. No counter of versions begins so low.
+/// The version under whose tag a resource is taken if none is shown. No request that is written names it.
 pub const NO_VERSION: u64 = 0;

@@ -77,8 +77,8 @@ Becomes g service request (lost fault) old new = new ≡ old
 
 -- ---- on its stream
 
--- The text of the request as it is written for the service, which spells it, was written to the writer, and the result
--- is what the bytes of the reader say to it, from the first on
+-- The text of the request as it is written for the service, which spells it, was written to the writer. The result is
+-- what the bytes of the reader, from the first on, answer to what the service keeps of the request
 pub record IsAsked {I O : Type 0} (remaining : I → Option (List ℕ)) (contents : O → Option (List ℕ)) (service : Service)
     (request : Request) (reader : I) (writer : O) (came : Result Answer ExchangeFault) : Type 0 where
   pub left : Reading

@@ -144,8 +144,8 @@ abbrev pub IsHeard : {I : Type 0} → (I → Option (List ℕ)) → Request → 
 IsHeard remaining request reader (Ok sent) came = IsReadFrom remaining request reader came
 IsHeard remaining request reader (Err fault) came = came ≡ Err fault
 
--- The connector learns from what comes on the stream of the request, which is read as the answer to what the service keeps
--- of it
+-- The connector learns from what comes on the stream of the request. This is read as the answer to what the service
+-- keeps of the request
 pub record IsLearnt {I O J : Type 0}
     (remaining : I → Option (List ℕ)) (g : Ghosts J) (service : Service) (f : Flight I O) (old new : State J)
     (result : Result (Option RecordFault) RunFault) : Type 0 where

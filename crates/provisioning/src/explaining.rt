@@ -54,8 +54,8 @@ fn explain_fault(ended: &Ended<'_>, fault: RecordFault) -> Result<Option<Explana
     }
 }
 
-/// What a provider that drops revisions shows with other values than were asked. `None` if there is nothing so, or its
-/// answer is that to another request.
+/// What a provider that drops revisions shows with other values than were asked. `None` if all values are as asked,
+/// or if the answer shows no creation or replacement.
 fn explain_values(ended: &Ended<'_>) -> Result<Option<Explanation>, AllocError> {
     match (ended.keeps, carried(ended.request), ended.answer) {
         (Keeps::Versions, Some(asked), Some(Answer::Created(shown) | Answer::Replaced(shown))) => {

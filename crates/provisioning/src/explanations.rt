@@ -68,7 +68,7 @@ pub enum Explanation {
         shown: Revision,
         wanted: Revision,
     },
-    /// The record is confirmed.
+    /// The record is confirmed, and these values are shown otherwise than asked.
     OtherValues(OtherValues),
 }
 

@@ -33,7 +33,7 @@ impl<'a, D: Dial + Drop> Dial for Explaining<'a, D> {
         self.dial.end(reader, writer);
     }
 
-    /// Keeps what is said of it. If memory runs out, nothing is.
+    /// Keeps the explanation of the exchange. If memory runs out, nothing is kept.
     fn explain(&self, ended: &Ended<'_>) {
         keep(self.last, ended);
     }
@@ -88,8 +88,8 @@ fn is_printed<T: Tell>(teller: &T, standing: &Standing) -> bool {
     }
 }
 
-/// Prints on standard error what was kept of a record, if anything was, and it is to be printed. Nothing is kept of it from
-/// then on.
+/// Prints on standard error what was kept of a record, if anything was and it `is_printed`. Nothing is kept of it from then
+/// on.
 pub fn tell_last<E: Eprint>(
     stderr: &E,
     last: &Cell<Option<Explanations>>,

@@ -33,14 +33,14 @@ etag_of head = only_value (values (codes "etag") head.fields)
 
 -- ---- answers without a body
 
--- the resource is as the request asks, which carries no source revision: what is written at a provider that keeps none. A
--- request that carries one waits to see it
+-- A replacement without a source revision is done as it was asked: none is written at a provider that keeps none. If it
+-- has one, the answer must show it
 abbrev pub done_as_asked : Content → (id : List ℕ) → (revision : Option RevisionValue) → Option Answer
 done_as_asked content id None = Some (Replaced (untagged id content))
 done_as_asked content id (Some revision) = None
 
--- What a success without a body answers, if it answers anything. A replacement, with 200 or 204: what was asked is done. A
--- creation, with 201: the resource is there, under an id that isn't shown, so its name is taken
+-- What a success without a body answers, if it answers anything. A replacement, with 200 or 204: what was asked is done.
+-- A creation, with 201: the resource is there, under an id that isn't shown, so its name is taken
 abbrev pub silent_answer : Request → (status : ℕ) → Option Answer
 silent_answer (Create content) status = if status == 201 then Some (Error (bare_error 409)) else None
 silent_answer (Retrieve kind id if_match if_none_match) status = None
@@ -60,7 +60,8 @@ said_by request status etag (byte ∷ body) = read_body request status etag (byt
 
 -- ---- all answers
 
--- The answer under the entity tag that its response states. It is the tag of a resource that stands alone and shows none
+-- The answer under the entity tag that its response states. It is the tag of a resource that stands alone and shows
+-- none
 abbrev pub answer_tagged : Option (List ℕ) → Answer → Answer
 answer_tagged tag (Created s) = Created (completed tag s)
 answer_tagged tag (Found s) = Found (completed tag s)

@@ -71,7 +71,7 @@ shown s = record { id = id_text s.number; version = Some (version_tag s.version)
 abbrev pub shown_under : List ℕ → ShownRecord → ShownRecord
 shown_under tag s = record s { version = Some tag }
 
--- a resource that no answer shows: this content under this id, without an entity tag
+-- a resource of this content under this id, without an entity tag
 abbrev pub untagged : (id : List ℕ) → Content → ShownRecord
 untagged id content = record { id = id; version = None; content = content }
 

@@ -28,8 +28,8 @@ id_in (Some (object ms)) = Err InvalidValue
 abbrev pub tag_of : List ℕ → Option (List ℕ)
 tag_of s = if nat_le (length s) TAG_LIMIT && is_none (tag_fault s) then Some s else None
 
--- the entity tag that the field `ETag` of a response states (RFC 7232 section 2.3): an entity tag in UTF-8 of at most 256
--- bytes. Anything else states none
+-- the entity tag that the field `ETag` of a response states (RFC 7232 section 2.3): an entity tag in UTF-8 of at most
+-- 256 bytes. Anything else states none
 abbrev pub stated_tag : Option (List ℕ) → Option (List ℕ)
 stated_tag None = None
 stated_tag (Some etag) = if is_utf8 etag then tag_of etag else None

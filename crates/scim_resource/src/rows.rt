@@ -224,7 +224,7 @@ impl Shown {
         })
     }
 
-    /// A resource that no answer shows: this content under this id, without an entity tag.
+    /// A resource of this content under this id, without an entity tag.
     pub fn without_tag(
         alloc: Global,
         id: &ResourceId,
@@ -242,8 +242,8 @@ impl Shown {
         }
     }
 
-    /// The same resource. If it has no entity tag, it is under the one that the field `ETag` of a response states (RFC
-    /// 7232 section 2.3), if these bytes are one of at most 256 bytes, in UTF-8.
+    /// The same resource. If it has no entity tag, it gets the one that the field `ETag` of a response states (RFC 7232
+    /// section 2.3). A tag that isn't UTF-8, or has more than 256 bytes, doesn't count.
     pub fn tagged(self, alloc: Global, etag: Option<&[u8]>) -> Result<Shown, AllocError>
         ensures { IfOk result
             (λ s. s ≡ completed (stated_tag (option_map (λ tag. tag.now) etag.entry)) self) }

@@ -140,7 +140,7 @@ module _ {es : List Entry} {request : Request} {fs : List Entry} (messages : Lis
     | inr new ↦ up c new p q d r s at_q q_writes q_last (whole.named has.0 in_story.0 f c has.1 in_story.1 ∙ named) has_r has_s
   ]
 
-  -- the last request of a record arrives, and what is last stays at the top
+  -- the last request of a record arrives, and no content of that record exceeds its revision afterwards
   pub top_after : (place : ℕ) (asked : Request) → request_content request ≡ request_content asked → IsAt messages place (Asked asked) → IsLastOf messages place asked → LastAreTop fs messages
   top_after place asked carries at last = top_if (λ c is p. up_to_last c (sym carries ∙ is) p (cases_order p place))
     where

@@ -36,7 +36,8 @@ use Rattle.world_model.specs.Others.{Act, Ours, Theirs, KeepsApart, HeadlineAmon
 
 -- ---- events
 
--- what the connector takes an answer for: no resource has a revision, and each is under the tag that stands in for one
+-- what the connector takes an answer for: no resource has a revision, and each is under
+-- the tag that is taken if none is shown
 abbrev pub taken_for : Answer → Answer
 taken_for answer = answer_under no_version (forgot answer)
 
